@@ -1,0 +1,142 @@
+-- Each turn lays one group and what stands after it; see DecodeLoop.
+-- Assumes nothing.
+use Prim.Native.Nat.{_-_}
+use native.Mathlib.Omega.{arith}
+use lib.ListN.{length}
+use Rattle.buffer.proofs.Laying.{done}
+use Rattle.cobs.proofs.DecodeLoop.{Decoding, begin, bounds, zero-fits, turn-zero, turn-full, turn-last, end}
+use Rattle.cobs.proofs.decode_into.Statement.{statement}
+use Rattle.cobs.proofs.decode_into.Tie as tie
+
+abbrev Inv-loop : tie.InvT-loop
+Inv-loop src dst₀ r₀ w₀ dst r w = Decoding src dst₀ dst r w
+
+abbrev μ-loop : tie.MeasureT-loop
+μ-loop src dst₀ r₀ w₀ dst r w = length src - r
+
+loop-holds : tie.Need-loop-holds Inv-loop μ-loop
+loop-holds c = begin _ _ (c .before .before .pre .0) (c .before .before .pre .1)
+
+shared-slice-read-code : tie.Need-shared-slice-read-code Inv-loop μ-loop
+shared-slice-read-code c = omega arith
+
+cast-code : tie.Need-cast-code Inv-loop μ-loop
+cast-code c = omega (arith, c .shared-slice-known2 .given (c .before .before .loop .r))
+
+add-first : tie.Need-add-first Inv-loop μ-loop
+add-first c = omega arith
+
+add-r : tie.Need-add-r Inv-loop μ-loop
+add-r c =
+    let b = bounds (c .before .before .loop .inv) (omega arith) in
+    omega arith
+
+sub-copy : tie.Need-sub-copy Inv-loop μ-loop
+sub-copy c =
+    let b = bounds (c .before .before .loop .inv) (omega arith) in
+    omega arith
+
+part-copy-start : tie.Need-part-copy-start Inv-loop μ-loop
+part-copy-start c =
+    let b = bounds (c .before .before .loop .inv) (omega arith) in
+    omega arith
+
+part-copy-end : tie.Need-part-copy-end Inv-loop μ-loop
+part-copy-end c =
+    let b = bounds (c .before .before .loop .inv) (omega arith) in
+    omega arith
+
+copy-requires : tie.Need-copy-requires Inv-loop μ-loop
+copy-requires c κs =
+    let b = bounds (c .before .before .before .before .loop .inv) (omega arith) in
+    omega arith
+
+sub-w : tie.Need-sub-w Inv-loop μ-loop
+sub-w c =
+    let b = bounds (c .before .before .before .before .before .before .before .loop .inv) (omega arith) in
+    omega arith
+
+add-w : tie.Need-add-w Inv-loop μ-loop
+add-w c =
+    let b = bounds (c .before .before .before .before .before .before .before .loop .inv) (omega arith) in
+    omega arith
+
+add-if1 : tie.Need-add-if1 Inv-loop μ-loop
+add-if1 c = omega arith
+
+slice-write-dst : tie.Need-slice-write-dst Inv-loop μ-loop
+slice-write-dst c =
+    rw (c .before .before .before .before .copy .ensures)
+    (zero-fits (c .before .before .before .before .before .before .before .before .before .loop .inv) (omega arith) (c .before .if1 .taken) (c .if2 .taken))
+
+add-w-2 : tie.Need-add-w-2 Inv-loop μ-loop
+add-w-2 c =
+    let b = bounds (c .before .before .before .before .before .before .before .before .before .loop .inv) (omega arith) in
+    omega arith
+
+loop-less : tie.Need-loop-less Inv-loop μ-loop
+loop-less c =
+    let b = bounds (c .before .before .before .before .before .before .before .before .before .loop .inv) (omega arith) in
+    omega arith
+
+loop-again : tie.Need-loop-again Inv-loop μ-loop
+loop-again c =
+    rw (c .before .before .before .before .copy .ensures)
+    (turn-zero (c .before .before .before .before .before .before .before .before .before .loop .inv) (omega arith) (c .before .if1 .taken) (c .if2 .taken))
+
+loop-less-2 : tie.Need-loop-less-2 Inv-loop μ-loop
+loop-less-2 c =
+    let b = bounds (c .before .before .before .before .before .before .before .before .before .loop .inv) (omega arith) in
+    omega arith
+
+loop-again-2 : tie.Need-loop-again-2 Inv-loop μ-loop
+loop-again-2 c =
+    rw (c .before .before .before .before .copy .ensures)
+    (turn-last (c .before .before .before .before .before .before .before .before .before .loop .inv) (omega arith) (c .if2 .left))
+
+loop-less-3 : tie.Need-loop-less-3 Inv-loop μ-loop
+loop-less-3 c =
+    let b = bounds (c .before .before .before .before .before .before .before .before .loop .inv) (omega arith) in
+    omega arith
+
+loop-again-3 : tie.Need-loop-again-3 Inv-loop μ-loop
+loop-again-3 c =
+    rw (c .before .before .before .copy .ensures)
+    (turn-full (c .before .before .before .before .before .before .before .before .loop .inv) (omega arith) (c .if1 .left))
+
+same-length : tie.Need-same-length Inv-loop μ-loop
+same-length c = c .before .loop .inv .laying .long
+
+returns : tie.Need-returns Inv-loop μ-loop
+returns c =
+    let l = end (c .before .loop .inv) (c .loop-test .left) in
+    (omega arith, done l)
+
+pub decode-into-spec : {M : Type 1} → statement M
+decode-into-spec =
+    tie.close
+    (tie.spec
+    Inv-loop
+    μ-loop
+    loop-holds
+    shared-slice-read-code
+    cast-code
+    add-first
+    add-r
+    sub-copy
+    part-copy-start
+    part-copy-end
+    copy-requires
+    sub-w
+    add-w
+    add-if1
+    slice-write-dst
+    add-w-2
+    loop-less
+    loop-again
+    loop-less-2
+    loop-again-2
+    loop-less-3
+    loop-again-3
+    same-length
+    returns)

@@ -1,0 +1,44 @@
+-- Each answer is where the chain of tests in its definition ends.
+-- Assumes nothing.
+use borrow.Author.Tests.{lt-ltb, le-ltb}
+use Rattle.cobs.specs.Answers.{encodeAnswer, encodeLeft}
+use borrow.Author.Needs.{needs}
+use Rattle.cobs.proofs.encode.Statement.{statement}
+use Rattle.cobs.proofs.encode.Tie as tie
+
+returns : tie.Need-returns
+unfolding encodeAnswer encodeLeft
+returns c =
+    let e = lt-ltb _ _ (c .if1 .taken) in
+    (simp e, simp e)
+
+add-if2 : tie.Need-add-if2
+add-if2 c = search needs
+
+add-if2-2 : tie.Need-add-if2-2
+add-if2-2 c = search needs
+
+returns-2 : tie.Need-returns-2
+unfolding encodeAnswer encodeLeft
+returns-2 c =
+    let e = le-ltb _ _ (c .before .if1 .left) in
+    let f = lt-ltb _ _ (c .if2 .taken) in
+    (simp (e, f), simp (e, f))
+
+encode-into-requires : tie.Need-encode-into-requires
+encode-into-requires c κs = search needs
+
+same-length : tie.Need-same-length
+same-length c = search needs
+
+returns-3 : tie.Need-returns-3
+unfolding encodeAnswer encodeLeft
+returns-3 c =
+    let e = le-ltb _ _ (c .before .before .before .before .before .if1 .left) in
+    let f = le-ltb _ _ (c .before .before .before .before .if2 .left) in
+    (simp (e, f) (cc), simp (e, f) (c .before .before .encode-into .ensures .1))
+
+pub encode-spec : {M : Type 1} → statement M
+encode-spec =
+    tie.close
+    (tie.spec returns add-if2 add-if2-2 returns-2 encode-into-requires same-length returns-3)

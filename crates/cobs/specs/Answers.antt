@@ -1,0 +1,67 @@
+-- What encoding and decoding answer, what they leave of the destination, and 01's numbers: 01 "Numbers that come back".
+-- Assumes nothing.
+use Prim.Native.Nat.{ℕ}
+use mathlib.Core.Bool.{cond}
+use mathlib.Core.List.{List}
+use lib.Dec.{ltb}
+use lib.ListN.{length}
+use Rattle.numbers.specs.Numbers.{TAKEN, SHORT, STUFF, LENGTH}
+use Rattle.buffer.specs.Lay.{lay}
+use Rattle.cobs.specs.Encoding.{encoded, worst}
+use Rattle.cobs.specs.Decoding.{broken, decoded}
+use Rattle.cobs.specs.declared.Encoded.{Encoded}
+use Rattle.cobs.specs.declared.Encoded.the-variants as E
+use Rattle.cobs.specs.declared.Decoded.{Decoded}
+use Rattle.cobs.specs.declared.Decoded.the-variants as D
+
+-- 01 "Bytes on the wire": the longest body, and the most that it becomes
+abbrev pub bodyMax : ℕ
+bodyMax = 280
+
+abbrev pub encodedMax : ℕ
+encodedMax = 282
+
+-- encoding s with so much room: LENGTH, then SHORT
+unfoldable pub encodeAnswer : List ℕ → ℕ → Encoded
+encodeAnswer s room =
+    cond (ltb bodyMax (length s)) E.Length
+    (cond (ltb room (worst (length s))) E.Short
+    (E.Done (length (encoded s))))
+
+-- decoding s with so much room: LENGTH, then SHORT, then STUFF
+unfoldable pub decodeAnswer : List ℕ → ℕ → Decoded
+decodeAnswer s room =
+    cond (ltb encodedMax (length s)) D.Length
+    (cond (ltb room (length s)) D.Short
+    (cond (broken s) D.Stuff
+    (D.Done (length (decoded s)))))
+
+-- the destination d afterwards: a refusal leaves it, and so do the bytes past the written ones
+abbrev encodeBy : Encoded → List ℕ → List ℕ → List ℕ
+encodeBy (E.Done n) s d = lay 0 (encoded s) d
+encodeBy E.Short s d = d
+encodeBy E.Length s d = d
+
+unfoldable pub encodeLeft : List ℕ → List ℕ → List ℕ
+encodeLeft s d = encodeBy (encodeAnswer s (length d)) s d
+
+abbrev decodeBy : Decoded → List ℕ → List ℕ → List ℕ
+decodeBy (D.Done n) s d = lay 0 (decoded s) d
+decodeBy D.Short s d = d
+decodeBy D.Stuff s d = d
+decodeBy D.Length s d = d
+
+unfoldable pub decodeLeft : List ℕ → List ℕ → List ℕ
+decodeLeft s d = decodeBy (decodeAnswer s (length d)) s d
+
+-- the number of an answer
+abbrev pub encodeNumber : Encoded → ℕ
+encodeNumber (E.Done n) = TAKEN
+encodeNumber E.Short = SHORT
+encodeNumber E.Length = LENGTH
+
+abbrev pub decodeNumber : Decoded → ℕ
+decodeNumber (D.Done n) = TAKEN
+decodeNumber D.Short = SHORT
+decodeNumber D.Stuff = STUFF
+decodeNumber D.Length = LENGTH

@@ -1,0 +1,40 @@
+-- COBS encoding ("stuffing" in 01): P appendix A, `cobs_encode`; 01 "Bytes on the wire".
+-- Assumes nothing.
+use Prim.Native.Nat.{ℕ, _+_, _/_}
+use mathlib.Core.Bool.{Bool, cond, _||_}
+use mathlib.Core.List.{List, [], _∷_, _++_}
+use lib.Dec.{eqb}
+use lib.ListN.{length}
+use Rattle.cobs.specs.Groups.{full, into, first}
+
+-- whether the byte x ends a group that has n bytes before it: a zero does, and so does the 254th byte
+abbrev pub ends : ℕ → ℕ → Bool
+ends n x = eqb x 0 || eqb (n + 1) full
+
+-- what x, as the last of its group, leaves there: a zero is left out
+abbrev pub last : ℕ → List ℕ
+last x = cond (eqb x 0) [] (x ∷ [])
+
+-- The source cut into groups, where the first has n bytes already. After a full group another one follows, even if it is empty: that is the closing 01.
+unfoldable pub cut : ℕ → List ℕ → List (List ℕ)
+cut n [] = [] ∷ []
+cut n (x ∷ xs) =
+    let gs = cut (cond (ends n x) 0 (n + 1)) xs in
+    cond (ends n x) (last x ∷ gs) (into x gs)
+
+-- the first group of the source
+unfoldable pub group : List ℕ → List ℕ
+group xs = first (cut 0 xs)
+
+-- groups on the wire: each as its code and its bytes
+unfoldable pub wire : List (List ℕ) → List ℕ
+wire [] = []
+wire (g ∷ gs) = (length g + 1) ∷ (g ++ wire gs)
+
+-- the encoding of the bytes xs
+unfoldable pub encoded : List ℕ → List ℕ
+encoded xs = wire (cut 0 xs)
+
+-- the most that n bytes become
+abbrev pub worst : ℕ → ℕ
+worst n = n + n / full + 1

@@ -1,0 +1,4 @@
+pub mod Groups
+pub mod Encoding
+pub mod Decoding
+pub mod Answers
