@@ -7,7 +7,7 @@ use Prim.Native.Nat.{ℕ, suc, _+_, _-_}
 use native.Mathlib.Omega.{arith}
 use borrow.Author.Tests.{eq-eqb, ne-eqb}
 use Rattle.buffer.proofs.Deciding.{same}
-use Rattle.cobs.specs.Groups.{full, into, first, others}
+use Rattle.cobs.specs.Groups.{full, into, first}
 use Rattle.cobs.specs.Encoding.{cut}
 use Rattle.cobs.specs.Decoding.{whole, parts}
 
@@ -47,6 +47,11 @@ module _ (n x : ℕ) (xs : List ℕ) where
   pub parts-byte : parts (suc n) (x ∷ xs) ≡ into x (parts n xs)
   unfolding parts
   parts-byte = rw (ne-eqb (suc n) 0 (λ e. omega arith), pred-suc) refl
+
+-- the groups after the first
+abbrev pub others : List (List ℕ) → List (List ℕ)
+others [] = []
+others (g ∷ gs) = gs
 
 pub into-split : (x : ℕ) (gs : List (List ℕ)) → into x gs ≡ (x ∷ first gs) ∷ others gs
 into-split x [] = refl

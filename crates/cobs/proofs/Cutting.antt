@@ -11,9 +11,9 @@ use lib.Dec.{eqb}
 use lib.ListN.{length, drop, getD}
 use Rattle.buffer.proofs.Deciding.{same}
 use Rattle.buffer.proofs.Laws.{next, no-more}
-use Rattle.cobs.specs.Groups.{full, first, others}
+use Rattle.cobs.specs.Groups.{full, first}
 use Rattle.cobs.specs.Encoding.{cut, group, wire, encoded, worst}
-use Rattle.cobs.proofs.Cases.{three, cut-zero, cut-full, cut-more, into-split}
+use Rattle.cobs.proofs.Cases.{three, cut-zero, cut-full, cut-more, into-split, others}
 
 -- a cut is never without a group
 pub cut-split : (n : ℕ) (xs : List ℕ) → cut n xs ≡ first (cut n xs) ∷ others (cut n xs)

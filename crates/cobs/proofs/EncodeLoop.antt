@@ -10,8 +10,9 @@ use lib.Seq.{drop-drop, take-all}
 use Rattle.buffer.specs.Lay.{lay}
 use Rattle.buffer.proofs.Laws.{length-lay, set-lay}
 use Rattle.buffer.proofs.Laying.{Laying, start, fits, piece}
-use Rattle.cobs.specs.Groups.{full, others}
+use Rattle.cobs.specs.Groups.{full}
 use Rattle.cobs.specs.Encoding.{cut, group, wire, encoded, worst}
+use Rattle.cobs.proofs.Cases.{others}
 use Rattle.cobs.proofs.Cutting.{Cut, cut-is, encoded-split, encoded-length}
 
 pub record Encoding (src dst₀ dst : List ℕ) (r w : ℕ) : Type 0 where

@@ -11,12 +11,12 @@ use lib.Dec.{eqb}
 use lib.ListN.{length, length-append}
 use lib.Seq.{append-snoc, take-append-seam, drop-append-seam}
 use Rattle.buffer.specs.Lay.{lay}
-use Rattle.cobs.specs.Groups.{full, first, others}
+use Rattle.cobs.specs.Groups.{full, first}
 use Rattle.cobs.specs.Encoding.{cut, wire, encoded, worst}
 use Rattle.cobs.specs.Decoding.{hasZero, whole, broken, groups, gap, joined, decoded}
 use Rattle.cobs.specs.Answers.{bodyMax, decodeAnswer, decodeLeft}
 use Rattle.cobs.specs.declared.Decoded.the-variants as D
-use Rattle.cobs.proofs.Cases.{three, cut-none, cut-zero, cut-full, cut-more, into-split}
+use Rattle.cobs.proofs.Cases.{three, cut-none, cut-zero, cut-full, cut-more, into-split, others}
 use Rattle.cobs.proofs.Cutting.{cut-split, encoded-split, encoded-length}
 use Rattle.cobs.proofs.Reading.{or-assoc, parts-split, whole-skip, broken-some, gap-full}
 

@@ -11,9 +11,9 @@ use lib.Dec.{eqb}
 use lib.ListN.{length, take, drop, getD, length-drop, length-append}
 use lib.Seq.{drop-drop}
 use Rattle.buffer.proofs.Laws.{next, no-more}
-use Rattle.cobs.specs.Groups.{full, isFull, into, first, others}
+use Rattle.cobs.specs.Groups.{full, isFull, into, first}
 use Rattle.cobs.specs.Decoding.{hasZero, whole, broken, parts, groups, gap, joined, decoded}
-use Rattle.cobs.proofs.Cases.{whole-byte, parts-byte, into-split}
+use Rattle.cobs.proofs.Cases.{whole-byte, parts-byte, into-split, others}
 
 -- ---- no zero
 

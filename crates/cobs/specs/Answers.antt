@@ -21,14 +21,14 @@ bodyMax = 280
 abbrev pub encodedMax : ℕ
 encodedMax = 282
 
--- encoding s with so much room: LENGTH, then SHORT
+-- encoding s into so much room: LENGTH, then SHORT
 unfoldable pub encodeAnswer : List ℕ → ℕ → Encoded
 encodeAnswer s room =
     cond (ltb bodyMax (length s)) E.Length
     (cond (ltb room (worst (length s))) E.Short
     (E.Done (length (encoded s))))
 
--- decoding s with so much room: LENGTH, then SHORT, then STUFF
+-- decoding s into so much room: LENGTH, then SHORT, then STUFF
 unfoldable pub decodeAnswer : List ℕ → ℕ → Decoded
 decodeAnswer s room =
     cond (ltb encodedMax (length s)) D.Length
@@ -36,7 +36,8 @@ decodeAnswer s room =
     (cond (broken s) D.Stuff
     (D.Done (length (decoded s)))))
 
--- the destination d afterwards: a refusal leaves it, and so do the bytes past the written ones
+-- The destination d afterwards: what was written from its start on, with the bytes past that as they were.
+-- A refusal leaves all of it.
 abbrev encodeBy : Encoded → List ℕ → List ℕ → List ℕ
 encodeBy (E.Done n) s d = lay 0 (encoded s) d
 encodeBy E.Short s d = d

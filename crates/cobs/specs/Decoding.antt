@@ -6,7 +6,8 @@ use mathlib.Core.List.{List, [], _∷_, _++_}
 use lib.Dec.{eqb}
 use Rattle.cobs.specs.Groups.{isFull, into}
 
--- How many bytes of a group are still to come after the byte x, where n were to come before it. With none to come, x is the code of the next group.
+-- How many bytes of a group are still to come after the byte x, where n were to come before it.
+-- With none to come, x is the code of the next group.
 abbrev pub toCome : ℕ → ℕ → ℕ
 toCome n x = cond (eqb n 0) (x - 1) (n - 1)
 
@@ -25,7 +26,7 @@ unfoldable pub broken : List ℕ → Bool
 broken [] = true
 broken (x ∷ xs) = hasZero (x ∷ xs) || not (whole 0 (x ∷ xs))
 
--- the groups in some bytes, of which n belong to the first
+-- the groups in some bytes, of which the first n belong to a group whose code was read before
 unfoldable pub parts : ℕ → List ℕ → List (List ℕ)
 parts n [] = [] ∷ []
 parts n (x ∷ xs) =
@@ -37,7 +38,7 @@ unfoldable pub groups : List ℕ → List (List ℕ)
 groups [] = []
 groups (x ∷ xs) = parts (x - 1) xs
 
--- what was left out between a group and those that follow: a zero, but nothing after a full one
+-- what was left out between the group g and those that follow it: a zero, but nothing after a full group
 abbrev pub gap : List ℕ → List (List ℕ) → List ℕ
 gap g [] = []
 gap g (h ∷ hs) = cond (isFull g) [] (0 ∷ [])

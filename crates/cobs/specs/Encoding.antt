@@ -7,22 +7,23 @@ use lib.Dec.{eqb}
 use lib.ListN.{length}
 use Rattle.cobs.specs.Groups.{full, into, first}
 
--- whether the byte x ends a group that has n bytes before it: a zero does, and so does the 254th byte
+-- whether the byte x ends a group that has n bytes before it: a zero does, and the 254th byte does
 abbrev pub ends : ℕ → ℕ → Bool
 ends n x = eqb x 0 || eqb (n + 1) full
 
--- what x, as the last of its group, leaves there: a zero is left out
+-- what such an x leaves in the group: a zero is left out
 abbrev pub last : ℕ → List ℕ
 last x = cond (eqb x 0) [] (x ∷ [])
 
--- The source cut into groups, where the first has n bytes already. After a full group another one follows, even if it is empty: that is the closing 01.
+-- The source cut into groups, where the first has n bytes already.
+-- After a full group another one follows, an empty one at the end of the source: that is the closing 01.
 unfoldable pub cut : ℕ → List ℕ → List (List ℕ)
 cut n [] = [] ∷ []
 cut n (x ∷ xs) =
     let gs = cut (cond (ends n x) 0 (n + 1)) xs in
     cond (ends n x) (last x ∷ gs) (into x gs)
 
--- the first group of the source
+-- the first group of the source xs
 unfoldable pub group : List ℕ → List ℕ
 group xs = first (cut 0 xs)
 
