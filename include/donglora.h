@@ -10,7 +10,7 @@
  *
  * Rules for all functions:
  *   - A pointer and the size after it name a block of memory. The pointer may be NULL where the
- *     size is 0.
+ *     size is 0. `written` is never NULL.
  *   - A destination must not overlap a source, nor `written` either of them.
  *   - A refusal writes nothing: every byte of the destination, and *written, stay as they were.
  *   - On success the bytes of the destination past the written ones stay as they were.
