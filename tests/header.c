@@ -10,6 +10,12 @@
 static int checks;
 static int failed;
 
+#ifdef __cplusplus
+#define LANGUAGE "C++"
+#else
+#define LANGUAGE "C"
+#endif
+
 #define CHECK(condition) check((condition) ? 1 : 0, #condition, __LINE__)
 
 static void check(int holds, const char *condition, int line)
@@ -158,6 +164,6 @@ int main(void)
         check_frame(&frames[i]);
     check_encode();
     check_decode();
-    printf("header: %d checks, %d failed\n", checks, failed);
+    printf("header in " LANGUAGE ": %d checks, %d failed\n", checks, failed);
     return failed == 0 ? 0 : 1;
 }

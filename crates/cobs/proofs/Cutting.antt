@@ -4,7 +4,7 @@ use mathlib.Core.Path.{_≡_, refl, ap, _∙_}
 use mathlib.Core.Logic.{⊎-elim}
 use mathlib.Core.Bool.{cond}
 use mathlib.Core.List.{List, [], _∷_, _++_}
-use Prim.Native.Nat.{ℕ, suc, _+_, _*_, _<_, _≤_, min}
+use Prim.Native.Nat.{ℕ, suc, _+_, _<_, _≤_, min}
 use native.Mathlib.Omega.{arith}
 use borrow.Author.Tests.{eq-eqb, ne-eqb}
 use lib.Dec.{eqb}
@@ -12,7 +12,7 @@ use lib.ListN.{length, drop, getD}
 use Rattle.buffer.proofs.Deciding.{same}
 use Rattle.buffer.proofs.Laws.{next, no-more}
 use Rattle.cobs.specs.Groups.{full, first}
-use Rattle.cobs.specs.Encoding.{cut, group, wire, encoded, worst}
+use Rattle.cobs.specs.Encoding.{cut, group, wire, encoded}
 use Rattle.cobs.proofs.Cases.{three, cut-zero, cut-full, cut-more, into-split, others}
 
 -- a cut is never without a group
@@ -109,19 +109,3 @@ module _ (s : List ℕ) (i : ℕ) (h : i < length s) (few : i < full) where
 pub encoded-split : (xs : List ℕ) → encoded xs ≡ ((length (group xs) + 1) ∷ group xs) ++ wire (others (cut 0 xs))
 unfolding encoded group wire
 encoded-split xs = ap wire (cut-split 0 xs)
-
--- each full group costs one byte more
-wire-length : (n : ℕ) (xs : List ℕ) → n < full → 254 * length (wire (cut n xs)) ≤ 255 * length xs + n + 254
-unfolding cut wire
-wire-length n [] h = omega arith
-wire-length n (x ∷ xs) h =
-    three n x (λ z. rw (cut-zero n x xs z) (omega (arith, wire-length 0 xs (omega arith))))
-    (λ s f. rw (cut-full n x xs s f) (omega (arith, wire-length 0 xs (omega arith))))
-    (λ s f.
-    let l = rw (cut-split (n + 1) xs) at (wire-length (n + 1) xs (omega arith)) in
-    rw (cut-more n x xs s f, into-split x (cut (n + 1) xs)) (omega arith))
-
--- an encoding is at most the worst case
-pub encoded-length : (xs : List ℕ) → length (encoded xs) ≤ worst (length xs)
-unfolding encoded
-encoded-length xs = omega (arith, wire-length 0 xs (omega arith))

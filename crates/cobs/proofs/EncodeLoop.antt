@@ -13,7 +13,8 @@ use Rattle.buffer.proofs.Laying.{Laying, start, fits, piece}
 use Rattle.cobs.specs.Groups.{full}
 use Rattle.cobs.specs.Encoding.{cut, group, wire, encoded, worst}
 use Rattle.cobs.proofs.Cases.{others}
-use Rattle.cobs.proofs.Cutting.{Cut, cut-is, encoded-split, encoded-length}
+use Rattle.cobs.proofs.Cutting.{Cut, cut-is, encoded-split}
+use Rattle.cobs.proofs.Laws.{length-bound}
 
 pub record Encoding (src dst₀ dst : List ℕ) (r w : ℕ) : Type 0 where
   pub inside : r ≤ length src
@@ -21,7 +22,7 @@ pub record Encoding (src dst₀ dst : List ℕ) (r w : ℕ) : Type 0 where
 
 pub begin : (src dst : List ℕ) → worst (length src) ≤ length dst → Encoding src dst dst 0 0
 begin src dst h =
-    let l = encoded-length src in
+    let l = length-bound src in
     record { inside = omega arith; laying = start 0 (encoded src) dst (omega arith) }
 
 -- the source from r on, as the code cuts it out
@@ -44,14 +45,15 @@ module _ {src dst₀ dst : List ℕ} {r w : ℕ} (i : Encoding src dst₀ dst r 
   shape : Cut 0 xs (cut 0 xs)
   shape = cut-is 0 xs (omega arith)
 
-  now : Laying 0 (encoded src) dst₀ w (((length g + 1) ∷ g) ++ wire (others (cut 0 xs))) dst
-  now = rw (sym from-is, encoded-split xs) at (i .laying)
+  -- the group with its code, and the others, are still to be laid
+  ahead : Laying 0 (encoded src) dst₀ w (((length g + 1) ∷ g) ++ wire (others (cut 0 xs))) dst
+  ahead = rw (sym from-is, encoded-split xs) at (i .laying)
 
   -- the group has its bytes in the source, and room with its code in the destination
   pub bounds : (length g ≤ full) × (r + length g ≤ length src) × (w + 1 + length g ≤ length dst)
   unfolding group
   bounds =
-      let f = fits ((length g + 1) ∷ g) _ now in
+      let f = fits ((length g + 1) ∷ g) _ ahead in
       (omega (arith, shape .small), omega (arith, shape .inside, long), omega arith)
 
   -- k bytes of the group were copied, which left d
@@ -62,7 +64,7 @@ module _ {src dst₀ dst : List ℕ} {r w : ℕ} (i : Encoding src dst₀ dst r 
     laid : Laying 0 (encoded src) dst₀ (w + (k + 1)) (wire (others (cut 0 xs))) (set d w (k + 1))
     laid =
         let e : w + suc (length g) ≡ w + (length g + 1) = omega arith in
-        rw (n, l, set-lay w (length g + 1) g dst (bounds .2)) (rw e at (piece ((length g + 1) ∷ g) now))
+        rw (n, l, set-lay w (length g + 1) g dst (bounds .2)) (rw e at (piece ((length g + 1) ∷ g) ahead))
 
     -- what follows m bytes of the source from r on
     on : (m : ℕ) → drop m xs ≡ drop (r + m) src

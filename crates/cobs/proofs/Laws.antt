@@ -4,7 +4,7 @@
 use mathlib.Core.Path.{_≡_, refl, sym, ap, ap₂, _∙_}
 use mathlib.Core.Bool.{Bool, true, false, _||_}
 use mathlib.Core.List.{List, [], _∷_, _++_, append-nil}
-use Prim.Native.Nat.{ℕ, _+_, _-_, _<_, _≤_}
+use Prim.Native.Nat.{ℕ, _+_, _-_, _*_, _<_, _≤_}
 use native.Mathlib.Omega.{arith}
 use borrow.Author.Tests.{ne-eqb, le-ltb}
 use lib.Dec.{eqb}
@@ -14,10 +14,10 @@ use Rattle.buffer.specs.Lay.{lay}
 use Rattle.cobs.specs.Groups.{full, first}
 use Rattle.cobs.specs.Encoding.{cut, wire, encoded, worst}
 use Rattle.cobs.specs.Decoding.{hasZero, whole, broken, groups, gap, joined, decoded}
-use Rattle.cobs.specs.Answers.{bodyMax, decodeAnswer, decodeLeft}
+use Rattle.cobs.specs.Answers.{bodyMax, encodedMax, decodeAnswer, decodeLeft}
 use Rattle.cobs.specs.declared.Decoded.the-variants as D
 use Rattle.cobs.proofs.Cases.{three, cut-none, cut-zero, cut-full, cut-more, into-split, others}
-use Rattle.cobs.proofs.Cutting.{cut-split, encoded-split, encoded-length}
+use Rattle.cobs.proofs.Cutting.{cut-split, encoded-split}
 use Rattle.cobs.proofs.Reading.{or-assoc, parts-split, whole-skip, broken-some, gap-full}
 
 -- ---- writing groups and reading them
@@ -50,6 +50,7 @@ unfolding hasZero
 zero-append [] b = refl
 zero-append (x ∷ a) b = ap (λ (t : Bool). eqb x 0 || t) (zero-append a b) ∙ sym (or-assoc (eqb x 0) (hasZero a) (hasZero b))
 
+-- groups without a zero
 abbrev Clean : List (List ℕ) → Type 0
 Clean [] = Unit
 Clean (g ∷ gs) = (hasZero g ≡ false) × Clean gs
@@ -69,9 +70,28 @@ unfolding hasZero wire
 wire-clean [] c = refl
 wire-clean (g ∷ gs) c = simp (ne-eqb (length g + 1) 0 (λ e. omega arith), zero-append, c .0) (wire-clean gs (c .1))
 
+-- an encoding has no zero
 pub no-zero : (s : List ℕ) → hasZero (encoded s) ≡ false
 unfolding encoded
 no-zero s = wire-clean (cut 0 s) (cut-clean 0 s)
+
+-- ---- the length
+
+-- each full group costs one byte more
+wire-length : (n : ℕ) (xs : List ℕ) → n < full → 254 * length (wire (cut n xs)) ≤ 255 * length xs + n + 254
+unfolding cut wire
+wire-length n [] h = omega arith
+wire-length n (x ∷ xs) h =
+    three n x (λ z. rw (cut-zero n x xs z) (omega (arith, wire-length 0 xs (omega arith))))
+    (λ s f. rw (cut-full n x xs s f) (omega (arith, wire-length 0 xs (omega arith))))
+    (λ s f.
+    let l = rw (cut-split (n + 1) xs) at (wire-length (n + 1) xs (omega arith)) in
+    rw (cut-more n x xs s f, into-split x (cut (n + 1) xs)) (omega arith))
+
+-- an encoding is at most the worst case
+pub length-bound : (s : List ℕ) → length (encoded s) ≤ worst (length s)
+unfolding encoded
+length-bound s = omega (arith, wire-length 0 s (omega arith))
 
 -- ---- cutting and joining
 
@@ -108,10 +128,6 @@ round-trip s = ap joined (groups-wire (cut 0 s) ∙ cut-split 0 s) ∙ joined-cu
 pub injective : (a b : List ℕ) → encoded a ≡ encoded b → a ≡ b
 injective a b e = sym (round-trip a) ∙ ap decoded e ∙ round-trip b
 
--- at most the worst case
-pub length-bound : (s : List ℕ) → length (encoded s) ≤ worst (length s)
-length-bound = encoded-length
-
 -- an encoding is never refused as one
 pub encoded-sound : (s : List ℕ) → broken (encoded s) ≡ false
 unfolding encoded
@@ -124,6 +140,6 @@ pub read-back : (s d : List ℕ) → length s ≤ bodyMax → length (encoded s)
 unfolding decodeAnswer decodeLeft
 read-back s d h k =
     let l = length-bound s in
-    let e = le-ltb 282 (length (encoded s)) (omega arith) in
+    let e = le-ltb encodedMax (length (encoded s)) (omega arith) in
     let f = le-ltb (length d) (length (encoded s)) (omega arith) in
     (simp (e, f, encoded-sound, round-trip), simp (e, f, encoded-sound, round-trip))

@@ -1,7 +1,7 @@
-pub mod Cases
-pub mod Cutting
-pub mod Reading
-mod DecodeLoop
-mod EncodeLoop
+mod Cases
+mod Cutting
+mod Reading
 pub mod Laws
+mod EncodeLoop
+mod DecodeLoop
 pub mod Examples

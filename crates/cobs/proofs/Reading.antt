@@ -17,11 +17,11 @@ use Rattle.cobs.proofs.Cases.{whole-byte, parts-byte, into-split, other
 
 -- ---- no zero
 
-pub zero-head : (x : ℕ) (xs : List ℕ) → hasZero (x ∷ xs) ≡ false → x ≡ 0 → ⊥
+zero-head : (x : ℕ) (xs : List ℕ) → hasZero (x ∷ xs) ≡ false → x ≡ 0 → ⊥
 unfolding hasZero
 zero-head x xs h z = let q : _≡_ {A = ℕ} 0 1 = cc in omega arith
 
-pub zero-tail : (x : ℕ) (xs : List ℕ) → hasZero (x ∷ xs) ≡ false → hasZero xs ≡ false
+zero-tail : (x : ℕ) (xs : List ℕ) → hasZero (x ∷ xs) ≡ false → hasZero xs ≡ false
 unfolding hasZero
 zero-tail x xs h = simp (ne-eqb x 0 (zero-head x xs h)) at h
 
@@ -57,7 +57,7 @@ whole-skip (suc m) [] h = absurd (not-suc-le-zero h)
 whole-skip (suc m) (x ∷ xs) h = whole-byte m x xs ∙ whole-skip m xs (le-of-suc-le-suc h)
 
 -- a group that reaches past the end
-pub whole-short : (m : ℕ) (xs : List ℕ) → length xs < m → whole m xs ≡ false
+whole-short : (m : ℕ) (xs : List ℕ) → length xs < m → whole m xs ≡ false
 unfolding whole
 whole-short zero xs h = absurd (not-suc-le-zero h)
 whole-short (suc m) [] h = ne-eqb (suc m) 0 (λ e. omega arith)

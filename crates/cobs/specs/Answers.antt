@@ -1,4 +1,5 @@
--- What encoding and decoding answer, what they leave of the destination, and 01's numbers: 01 "Numbers that come back".
+-- What encoding and decoding answer, in the order of 01 "Bytes on the wire"; what they leave of the destination, and the number of each answer, by
+-- 01 "Numbers that come back".
 -- Assumes nothing.
 use Prim.Native.Nat.{ℕ}
 use mathlib.Core.Bool.{cond}
@@ -14,7 +15,7 @@ use Rattle.cobs.specs.declared.Encoded.the-variants as E
 use Rattle.cobs.specs.declared.Decoded.{Decoded}
 use Rattle.cobs.specs.declared.Decoded.the-variants as D
 
--- 01 "Bytes on the wire": the longest body, and the most that it becomes
+-- the longest body, and the most that it becomes
 abbrev pub bodyMax : ℕ
 bodyMax = 280
 

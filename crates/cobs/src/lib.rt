@@ -128,7 +128,7 @@ fn is_broken(src: &[u8]) -> bool
     !is_whole(src)
 }
 
-// Whether src has a zero. It does not stop at the first, so that many bytes are looked at at once.
+// Whether src has a zero. It does not stop at the first, so that it can look at many at a time.
 fn has_zero(src: &[u8]) -> bool
     ensures { λ r. ⌜ r ≡ hasZero (now (src .entry)) ⌝ }
 {

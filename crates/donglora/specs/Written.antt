@@ -1,4 +1,4 @@
--- What a C caller finds in `*written`: the count of bytes, or what stood there where the call was refused.
+-- What a C caller finds in `*written`: the count of bytes. A refusal writes nothing (01 "Numbers that come back"), so what stood there stays.
 -- Assumes nothing.
 use Prim.Native.Nat.{ℕ}
 use Rattle.cobs.specs.declared.Encoded.{Encoded}
