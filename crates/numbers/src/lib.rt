@@ -1,5 +1,7 @@
 // The numbers that come back, for code: 01 "Numbers that come back". specs/Numbers.antt has the
 // same table, and says exactly when each applies.
+ghost use mathlib.Core.Path.{_≡_};
+ghost use Rattle.numbers.specs.Refusals.{refusalNumber};
 
 // Done.
 pub const TAKEN: u8 = 0;
@@ -33,3 +35,29 @@ pub const TYPE: u8 = 9;
 
 // The payload is not one of this type.
 pub const FORM: u8 = 10;
+
+// Why a reader or a writer refuses: 4 to 10 of the table.
+pub enum Refusal {
+    Short,
+    Stuff,
+    Length,
+    Check,
+    Tag,
+    Type,
+    Form,
+}
+
+// The number of a refusal.
+pub fn refusal_number(r: Refusal) -> u8
+    ensures { λ n. ⌜ n ≡ refusalNumber r ⌝ }
+{
+    match r {
+        Refusal::Short => SHORT,
+        Refusal::Stuff => STUFF,
+        Refusal::Length => LENGTH,
+        Refusal::Check => CHECK,
+        Refusal::Tag => TAG,
+        Refusal::Type => TYPE,
+        Refusal::Form => FORM,
+    }
+}
