@@ -15,7 +15,8 @@ use Rattle.buffer.proofs.Laws.{next, no-more}
 use Rattle.buffer.proofs.Laying.{Laying, start, byte, fits, piece}
 use Rattle.cobs.specs.Groups.{full}
 use Rattle.cobs.specs.Decoding.{hasZero, whole, broken, groups, gap, joined, decoded}
-use Rattle.cobs.proofs.Reading.{no-zero-at, whole-more, whole-past, broken-no, decoded-split, decoded-length, gap-end, gap-zero, gap-full}
+use Rattle.cobs.proofs.Laws.{decoded-length}
+use Rattle.cobs.proofs.Reading.{no-zero-at, whole-more, whole-past, broken-no, decoded-split, gap-end, gap-zero, gap-full}
 
 pub record Decoding (src dst₀ dst : List ℕ) (r w : ℕ) : Type 0 where
   pub clean : hasZero src ≡ false

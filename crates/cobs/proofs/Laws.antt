@@ -1,24 +1,25 @@
--- The laws of COBS, for all sources: decoding undoes encoding, an encoding has no zero and at most the worst case's length, and tells its source.
+-- The laws of COBS, for all sources: decoding undoes encoding, an encoding has no zero and at most the worst case's length, and tells its source,
+-- which is no longer.
 -- The idea: both ways go through the groups. Cutting and joining undo one another, and so do writing groups and reading them.
 -- Assumes nothing.
 use mathlib.Core.Path.{_≡_, refl, sym, ap, ap₂, _∙_}
-use mathlib.Core.Bool.{Bool, true, false, _||_}
+use mathlib.Core.Bool.{Bool, true, false, cond, _||_}
 use mathlib.Core.List.{List, [], _∷_, _++_, append-nil}
-use Prim.Native.Nat.{ℕ, _+_, _-_, _*_, _<_, _≤_}
+use Prim.Native.Nat.{ℕ, zero, suc, _+_, _-_, _*_, _<_, _≤_}
 use native.Mathlib.Omega.{arith}
 use borrow.Author.Tests.{ne-eqb, le-ltb}
 use lib.Dec.{eqb}
 use lib.ListN.{length, length-append}
 use lib.Seq.{append-snoc, take-append-seam, drop-append-seam}
 use Rattle.buffer.specs.Lay.{lay}
-use Rattle.cobs.specs.Groups.{full, first}
+use Rattle.cobs.specs.Groups.{full, isFull, first}
 use Rattle.cobs.specs.Encoding.{cut, wire, encoded, worst}
-use Rattle.cobs.specs.Decoding.{hasZero, whole, broken, groups, gap, joined, decoded}
+use Rattle.cobs.specs.Decoding.{hasZero, whole, broken, parts, groups, gap, joined, decoded}
 use Rattle.cobs.specs.Answers.{bodyMax, encodedMax, decodeAnswer, decodeLeft}
 use Rattle.cobs.specs.declared.Decoded.the-variants as D
-use Rattle.cobs.proofs.Cases.{three, cut-none, cut-zero, cut-full, cut-more, into-split, others}
+use Rattle.cobs.proofs.Cases.{three, cut-none, cut-zero, cut-full, cut-more, parts-byte, into-split, others}
 use Rattle.cobs.proofs.Cutting.{cut-split, encoded-split}
-use Rattle.cobs.proofs.Reading.{or-assoc, parts-split, whole-skip, broken-some, gap-full}
+use Rattle.cobs.proofs.Reading.{or-assoc, parts-split, parts-some, whole-skip, broken-some, gap-full}
 
 -- ---- writing groups and reading them
 
@@ -92,6 +93,38 @@ wire-length n (x ∷ xs) h =
 pub length-bound : (s : List ℕ) → length (encoded s) ≤ worst (length s)
 unfolding encoded
 length-bound s = omega (arith, wire-length 0 s (omega arith))
+
+-- the bytes of some groups, and one for each group: what they take on the wire
+abbrev total : List (List ℕ) → ℕ
+total [] = 0
+total (g ∷ gs) = length g + 1 + total gs
+
+total-parts : (m : ℕ) (xs : List ℕ) → total (parts m xs) ≡ length xs + 1
+unfolding parts
+total-parts m [] = refl
+total-parts zero (x ∷ xs) = omega (arith, total-parts (x - 1) xs)
+total-parts (suc m) (x ∷ xs) =
+    let e = ap total (sym (parts-some m xs)) ∙ total-parts m xs in
+    rw (parts-byte m x xs, into-split x (parts m xs)) (omega arith)
+
+gap-length : (g : List ℕ) (gs : List (List ℕ)) → length (gap g gs) ≤ 1
+gap-length g [] = omega arith
+gap-length g (h ∷ hs) = go (isFull g)
+  where
+    go : (t : Bool) → length {A = ℕ} (cond t [] (0 ∷ [])) ≤ 1
+    go true = omega arith
+    go false = omega arith
+
+total-joined : (gs : List (List ℕ)) → length (joined gs) ≤ total gs
+unfolding joined
+total-joined [] = omega arith
+total-joined (g ∷ gs) = simp length-append (omega (arith, gap-length g gs, total-joined gs))
+
+-- what is decoded is no longer than its encoding
+pub decoded-length : (xs : List ℕ) → length (decoded xs) ≤ length xs
+unfolding decoded groups joined
+decoded-length [] = omega arith
+decoded-length (x ∷ xs) = omega (arith, total-joined (parts (x - 1) xs), total-parts (x - 1) xs)
 
 -- ---- cutting and joining
 

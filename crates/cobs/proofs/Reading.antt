@@ -1,17 +1,17 @@
 -- How an encoding is read: a code, its group, and what follows.
 -- Assumes nothing.
 use mathlib.Core.Path.{_≡_, refl, sym, ap, _∙_}
-use mathlib.Core.Bool.{Bool, true, false, cond, not, _||_}
+use mathlib.Core.Bool.{Bool, true, false, not, _||_}
 use mathlib.Core.List.{List, [], _∷_, _++_}
 use Prim.Native.Nat.{ℕ, zero, suc, _+_, _-_, _<_, _≤_}
 use native.Mathlib.Nat.{le-of-suc-le-suc, not-suc-le-zero}
 use native.Mathlib.Omega.{arith}
 use borrow.Author.Tests.{eq-eqb, ne-eqb}
 use lib.Dec.{eqb}
-use lib.ListN.{length, take, drop, getD, length-drop, length-append}
+use lib.ListN.{length, take, drop, getD, length-drop}
 use lib.Seq.{drop-drop}
 use Rattle.buffer.proofs.Laws.{next, no-more}
-use Rattle.cobs.specs.Groups.{full, isFull, into, first}
+use Rattle.cobs.specs.Groups.{full, into, first}
 use Rattle.cobs.specs.Decoding.{hasZero, whole, broken, parts, groups, gap, joined, decoded}
 use Rattle.cobs.proofs.Cases.{whole-byte, parts-byte, into-split, others}
 
@@ -107,7 +107,7 @@ unfolding groups
 gap-end g [] h = refl
 gap-end g (x ∷ xs) h = absurd (omega arith)
 
-parts-some : (m : ℕ) (xs : List ℕ) → parts m xs ≡ first (parts m xs) ∷ others (parts m xs)
+pub parts-some : (m : ℕ) (xs : List ℕ) → parts m xs ≡ first (parts m xs) ∷ others (parts m xs)
 unfolding parts
 parts-some m [] = refl
 parts-some zero (x ∷ xs) = refl
@@ -144,36 +144,3 @@ broken-no (x ∷ xs) h = go (hasZero (x ∷ xs)) (whole 0 (x ∷ xs)) h
     go true w e = (e, cc)
     go false true e = (refl, refl)
     go false false e = (refl, cc)
-
--- ---- what is decoded
-
--- the bytes of some groups, and one for each group: what they take on the wire
-abbrev total : List (List ℕ) → ℕ
-total [] = 0
-total (g ∷ gs) = length g + 1 + total gs
-
-total-parts : (m : ℕ) (xs : List ℕ) → total (parts m xs) ≡ length xs + 1
-unfolding parts
-total-parts m [] = refl
-total-parts zero (x ∷ xs) = omega (arith, total-parts (x - 1) xs)
-total-parts (suc m) (x ∷ xs) =
-    let e = ap total (sym (parts-some m xs)) ∙ total-parts m xs in
-    rw (parts-byte m x xs, into-split x (parts m xs)) (omega arith)
-
-gap-length : (g : List ℕ) (gs : List (List ℕ)) → length (gap g gs) ≤ 1
-gap-length g [] = omega arith
-gap-length g (h ∷ hs) = go (isFull g)
-  where
-    go : (t : Bool) → length {A = ℕ} (cond t [] (0 ∷ [])) ≤ 1
-    go true = omega arith
-    go false = omega arith
-
-total-joined : (gs : List (List ℕ)) → length (joined gs) ≤ total gs
-unfolding joined
-total-joined [] = omega arith
-total-joined (g ∷ gs) = simp length-append (omega (arith, gap-length g gs, total-joined gs))
-
-pub decoded-length : (xs : List ℕ) → length (decoded xs) ≤ length xs
-unfolding decoded groups joined
-decoded-length [] = omega arith
-decoded-length (x ∷ xs) = omega (arith, total-joined (parts (x - 1) xs), total-parts (x - 1) xs)

@@ -7,7 +7,7 @@ ghost use lib.ListN.{length};
 ghost use Rattle.buffer.specs.Lay.{lay};
 ghost use Rattle.cobs.specs.Encoding.{group, encoded, worst};
 ghost use Rattle.cobs.specs.Decoding.{hasZero, whole, broken, decoded};
-ghost use Rattle.cobs.specs.Answers.{encodeAnswer, encodeLeft, decodeAnswer, decodeLeft};
+ghost use Rattle.cobs.specs.Answers.{bodyMax, encodeAnswer, encodeLeft, decodeAnswer, decodeLeft};
 
 // The longest body: 01 "Bytes on the wire".
 pub const BODY_MAX: usize = 280;
@@ -47,14 +47,23 @@ pub fn encode(src: &[u8], dst: &mut [u8]) -> Encoded
     if BODY_MAX < n {
         return Encoded::Length;
     }
-    if dst.len() < n + n / FULL + 1 {
+    if dst.len() < worst(n) {
         return Encoded::Short;
     }
     Encoded::Done(encode_into(src, dst))
 }
 
+// The most that n bytes become. A helper of the crates above, as the next: they show that n is
+// small, and that the encoding has room.
+pub fn worst(n: usize) -> usize
+    requires { ⌜ n ≤ bodyMax ⌝ }
+    ensures { λ r. ⌜ r ≡ worst n ⌝ }
+{
+    n + n / FULL + 1
+}
+
 // Writes the encoding of src, group by group: r bytes are read and w written.
-fn encode_into(src: &[u8], dst: &mut [u8]) -> usize
+pub fn encode_into(src: &[u8], dst: &mut [u8]) -> usize
     requires { ⌜ worst (length (now src)) ≤ length (now dst) ⌝ }
     ensures { λ r. ⌜ r ≡ length (encoded (now (src .entry))) ⌝ }
     ensures { λ r. ⌜ now (dst .exit) ≡ lay 0 (encoded (now (src .entry))) (now (dst .entry)) ⌝ }

@@ -1,5 +1,5 @@
 mod Xor
 mod Linear
 mod Fold
-mod Laws
+pub mod Laws
 pub mod Examples

@@ -12,21 +12,18 @@ returns c =
     let e = lt-ltb _ _ (c .if1 .taken) in
     (simp e, simp e)
 
-add-if2 : tie.Need-add-if2
-add-if2 c = search needs
-
-add-if2-2 : tie.Need-add-if2-2
-add-if2-2 c = search needs
+worst-requires : tie.Need-worst-requires
+worst-requires c κs = c .if1 .left
 
 returns-2 : tie.Need-returns-2
 unfolding encodeAnswer encodeLeft
 returns-2 c =
-    let e = le-ltb _ _ (c .before .if1 .left) in
-    let f = lt-ltb _ _ (c .if2 .taken) in
+    let e = le-ltb _ _ (c .before .before .if1 .left) in
+    let f = lt-ltb _ _ (rw (c .before .worst .ensures) at (c .if2 .taken)) in
     (simp (e, f), simp (e, f))
 
 encode-into-requires : tie.Need-encode-into-requires
-encode-into-requires c κs = search needs
+encode-into-requires c κs = rw (c .before .before .worst .ensures) at (c .before .if2 .left)
 
 same-length : tie.Need-same-length
 same-length c = search needs
@@ -34,11 +31,11 @@ same-length c = search needs
 returns-3 : tie.Need-returns-3
 unfolding encodeAnswer encodeLeft
 returns-3 c =
-    let e = le-ltb _ _ (c .before .before .before .before .before .if1 .left) in
-    let f = le-ltb _ _ (c .before .before .before .before .if2 .left) in
+    let e = le-ltb _ _ (c .before .before .before .before .before .before .if1 .left) in
+    let f = le-ltb _ _ (rw (c .before .before .before .before .before .worst .ensures) at (c .before .before .before .before .if2 .left)) in
     (simp (e, f) (cc), simp (e, f) (c .before .before .encode-into .ensures .1))
 
 pub encode-spec : {M : Type 1} → statement M
 encode-spec =
     tie.close
-    (tie.spec returns add-if2 add-if2-2 returns-2 encode-into-requires same-length returns-3)
+    (tie.spec returns worst-requires returns-2 encode-into-requires same-length returns-3)

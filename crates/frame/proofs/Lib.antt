@@ -1,0 +1,4 @@
+pub mod Laws
+mod Building
+mod Decoding
+pub mod Examples

@@ -1,0 +1,84 @@
+-- A run that opens has its body in working memory, and that body has room.
+-- Assumes nothing.
+use mathlib.Core.Path.{sym, _∙_}
+use native.Mathlib.Nat.{le-refl}
+use native.Mathlib.Omega.{arith}
+use lib.ListN.{length-take}
+use lib.Seq.{length-take-le}
+use Rattle.cobs.specs.Answers.{encodedMax}
+use Rattle.frame.proofs.Laws.{opens-facts, unpack-body, open-lays, open-keeps}
+use borrow.Author.Needs.{needs}
+use Rattle.frame.proofs.open.Statement.{statement}
+use Rattle.frame.proofs.open.Tie as tie
+
+slice-aggregate-unpack : tie.Need-slice-aggregate-unpack
+slice-aggregate-unpack c = search needs
+
+unpack-requires : tie.Need-unpack-requires
+unpack-requires c κs = search needs
+
+enum-known-opened : tie.Need-enum-known-opened
+enum-known-opened c = search needs
+
+enum-told : tie.Need-enum-told
+enum-told c = search needs
+
+returns : tie.Need-returns
+returns c =
+    let s = c .before .before .before .before .before .before .before in
+    let w = c .before .before .before .unpack .ensures in
+    (w .0, sym (open-keeps (s .args .run .now) (s .args .dst .now) (sym (w .0) ∙ c .enum-told .given .1)))
+
+add-memory : tie.Need-add-memory
+add-memory c =
+    let w = c .before .before .before .before .unpack in
+    let o = opens-facts _ _ (sym (w .ensures .0) ∙ c .before .opened .given .1) in
+    omega (arith, o .most)
+
+array-share-prefix-memory : tie.Need-array-share-prefix-memory
+array-share-prefix-memory c =
+    let w = c .before .before .before .before .unpack in
+    let o = opens-facts _ _ (sym (w .ensures .0) ∙ c .before .opened .given .1) in
+    rw (w .kept .1 .1 .0) (omega (arith, o .most))
+
+slice-aggregate-copy : tie.Need-slice-aggregate-copy
+slice-aggregate-copy c =
+    let w = c .before .before .before .before .before .unpack in
+    let o = opens-facts _ _ (sym (w .ensures .0) ∙ c .before .before .opened .given .1) in
+    sym (length-take-le _ (w .last .1 .1 .0) (rw (w .kept .1 .1 .0) (omega (arith, o .most))))
+
+copy-requires : tie.Need-copy-requires
+copy-requires c κs =
+    let w = c .before .before .before .before .before .before .unpack in
+    let o = opens-facts _ _ (sym (w .ensures .0) ∙ c .before .before .before .opened .given .1) in
+    rw length-take (omega (arith, o .fits, o .inside, o .long))
+
+same-length : tie.Need-same-length
+same-length c = search needs
+
+returns-2 : tie.Need-returns-2
+returns-2 c =
+    let s = c .before .before .before .before .before .before .before .before .before .before .before .before .before in
+    let w = c .before .before .before .before .before .before .before .before .before .unpack .ensures in
+    let d = s .args .dst .now in
+    let a = c .before .before .before .before .before .before .opened .given .1 in
+    let e = sym (w .0) ∙ a in (
+      sym a ∙ w .0,
+      rw (c .before .before .copy .ensures, w .1, unpack-body _ _ _ e (le-refl encodedMax)) (sym (open-lays (s .args .run .now) d e)),
+    )
+
+pub open-spec : {M : Type 1} → statement M
+open-spec =
+    tie.close
+    (tie.spec
+    slice-aggregate-unpack
+    unpack-requires
+    enum-known-opened
+    enum-told
+    returns
+    add-memory
+    array-share-prefix-memory
+    slice-aggregate-copy
+    copy-requires
+    same-length
+    returns-2)
