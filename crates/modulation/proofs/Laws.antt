@@ -1,0 +1,137 @@
+-- What is written of a modulation is read back, how long it is, and what a form tells. The columns compute, and each field is read back by the laws of numbers.
+-- Assumes nothing.
+use mathlib.Core.Path.{_≡_, refl, ap, subst, _∙_}
+use mathlib.Core.Bool.{true, cond}
+use mathlib.Core.List.{List, _++_}
+use Prim.Native.Nat.{ℕ, _+_, _≤_}
+use native.Mathlib.Omega.{arith}
+use borrow.Author.Tests.{le-ltb, eqb-true}
+use lib.Dec.{ltb}
+use lib.ListN.{length, take, drop}
+use lib.Seq.{take-all}
+use Rattle.buffer.specs.Lay.{lay}
+use Rattle.scalar.specs.Scalars.{le, number, i8}
+use Rattle.scalar.proofs.Laws.{signed-back, number-le}
+use Rattle.form.specs.Forms.{exactly}
+use Rattle.form.proofs.Laws.{exactly-size, passed}
+use Rattle.modulation.specs.Lora.{loraOf, loraBytes}
+use Rattle.modulation.specs.Fsk.{fskOf, fskBytes}
+use Rattle.modulation.specs.Modulations.{configForm, configOf, configBytes, syncWord}
+use Rattle.modulation.specs.Ranges.{LoraIn, FskIn, ModulationIn}
+use Rattle.modulation.specs.declared.Lora.{Lora}
+use Rattle.modulation.specs.declared.Fsk.{Fsk}
+use Rattle.form.specs.declared.Form.{Form}
+use Rattle.form.specs.declared.Form.the-variants as F
+use Rattle.modulation.specs.declared.Modulation.{Modulation}
+use Rattle.modulation.specs.declared.Modulation.the-variants as M
+use Rattle.modulation.proofs.Rows.{Row, is-lora, is-fsk, is-wrong, row}
+
+-- ---- the parameters
+
+pub lora-back : (m : Lora) → LoraIn m → (bs : List ℕ) → loraOf (loraBytes m ++ bs) ≡ m
+unfolding loraOf loraBytes lay le
+lora-back m r bs =
+    λ i.
+    record {
+      «freq_hz» = number-le 4 (m .«freq_hz») (r .«freq_hz») i;
+      sf = number-le 1 (m .sf) (r .sf) i;
+      bw = number-le 1 (m .bw) (r .bw) i;
+      cr = number-le 1 (m .cr) (r .cr) i;
+      «preamble_len» = number-le 2 (m .«preamble_len») (r .«preamble_len») i;
+      «sync_word» = number-le 2 (m .«sync_word») (r .«sync_word») i;
+      «tx_power_dbm» = signed-back 1 i8 refl (m .«tx_power_dbm») (r .«tx_power_dbm») i;
+      «header_mode» = number-le 1 (m .«header_mode») (r .«header_mode») i;
+      «payload_crc» = number-le 1 (m .«payload_crc») (r .«payload_crc») i;
+      «iq_invert» = number-le 1 (m .«iq_invert») (r .«iq_invert») i;
+    }
+
+pub fsk-back : (m : Fsk) → FskIn m → (bs : List ℕ) → fskOf (fskBytes m ++ bs) ≡ m
+unfolding fskOf fskBytes lay le
+fsk-back m r bs =
+    λ i.
+    record {
+      «freq_hz» = number-le 4 (m .«freq_hz») (r .«freq_hz») i;
+      «bitrate_bps» = number-le 4 (m .«bitrate_bps») (r .«bitrate_bps») i;
+      «freq_dev_hz» = number-le 4 (m .«freq_dev_hz») (r .«freq_dev_hz») i;
+      «rx_bw» = number-le 1 (m .«rx_bw») (r .«rx_bw») i;
+      «preamble_len» = number-le 2 (m .«preamble_len») (r .«preamble_len») i;
+      «sync_word_len» = number-le 1 (m .«sync_word_len») (r .«sync_word_len») i;
+    }
+
+-- ---- the payload
+
+pub config-back : (m : Modulation) → ModulationIn m → (word : List ℕ) → configOf (configBytes m word) ≡ m
+unfolding configOf configBytes number
+config-back (M.Lora m) r word = ap M.Lora (lora-back m r word)
+config-back (M.Fsk m) r word = ap M.Fsk (fsk-back m r word)
+
+-- its bytes before the sync word
+abbrev pub fixed : Modulation → ℕ
+fixed (M.Lora m) = 16
+fixed (M.Fsk m) = 17
+
+pub fixed-most : (m : Modulation) → fixed m ≤ 17
+fixed-most (M.Lora m) = omega arith
+fixed-most (M.Fsk m) = omega arith
+
+pub length-config : (m : Modulation) (word : List ℕ) → length (configBytes m word) ≡ fixed m + length word
+unfolding configBytes loraBytes fskBytes lay le
+length-config (M.Lora m) word = omega arith
+length-config (M.Fsk m) word = omega arith
+
+pub drop-config : (m : Modulation) (word : List ℕ) → word ≡ drop (fixed m) (configBytes m word)
+unfolding configBytes loraBytes fskBytes lay le
+drop-config (M.Lora m) word = refl
+drop-config (M.Fsk m) word = refl
+
+-- the form that it has
+abbrev pub formOf : Modulation → Form
+formOf (M.Lora m) = F.Size 16
+formOf (M.Fsk m) = cond (ltb 8 (m .«sync_word_len»)) F.Wrong (F.Size (17 + m .«sync_word_len»))
+
+pub config-form-back : (m : Modulation) → ModulationIn m → (word : List ℕ) → configForm (configBytes m word) ≡ formOf m
+unfolding configForm configBytes fskBytes lay le number
+config-form-back (M.Lora m) r word = refl
+config-form-back (M.Fsk m) r word =
+    let n = length-config (M.Fsk m) word in
+    rw (le-ltb (length (configBytes (M.Fsk m) word)) 17 (omega arith), number-le 1 (m .«sync_word_len») (r .«sync_word_len»))
+
+-- a payload of just that form has its sync word
+abbrev pub wordLen : Modulation → ℕ
+wordLen (M.Lora m) = 0
+wordLen (M.Fsk m) = m .«sync_word_len»
+
+pub word-length : (m : Modulation) → ModulationIn m → (word : List ℕ) → exactly (configForm (configBytes m word)) (length (configBytes m word)) ≡ true
+    → length word ≡ wordLen m
+word-length m r word e =
+    go m (length-config m word) (subst (λ (f : Form). exactly f (length (configBytes m word)) ≡ true) (config-form-back m r word) e)
+  where
+    go : (k : Modulation) {n : ℕ} → n ≡ fixed k + length word → exactly (formOf k) n ≡ true → length word ≡ wordLen k
+    go (M.Lora k) {n} l h = omega (arith, eqb-true 16 n h)
+    go (M.Fsk k) {n} l h = omega (arith, eqb-true (17 + k .«sync_word_len») n (passed (ltb 8 (k .«sync_word_len»)) _ n h .1))
+
+pub word-back : (m : Modulation) → ModulationIn m → (word : List ℕ) → exactly (configForm (configBytes m word)) (length (configBytes m word)) ≡ true
+    → syncWord (configBytes m word) ≡ word
+unfolding syncWord configBytes loraBytes fskBytes lay le number
+word-back (M.Lora m) r word e = take-all 0 word (omega (arith, word-length (M.Lora m) r word e))
+word-back (M.Fsk m) r word e =
+    ap (λ (n : ℕ). take n word) (number-le 1 (m .«sync_word_len») (r .«sync_word_len»))
+    ∙ take-all (m .«sync_word_len») word (omega (arith, word-length (M.Fsk m) r word e))
+
+-- ---- forms
+
+pub form-bounds : (p : List ℕ) (n : ℕ) → configForm p ≡ F.Size n → (16 ≤ n) × (n ≤ 25)
+form-bounds p n e = subst Bounds e (go (row p))
+  where
+    Bounds : Form → Type 0
+    Bounds (F.Size k) = (16 ≤ k) × (k ≤ 25)
+    Bounds F.Wrong = Unit {0}
+
+    go : {f : Form} → Row p f → Bounds f
+    go (is-lora t) = (omega arith, omega arith)
+    go (is-fsk h k) = (omega arith, omega arith)
+    go is-wrong = tt
+
+-- the longest payload
+pub config-small : (p : List ℕ) → exactly (configForm p) (length p) ≡ true → length p ≤ 25
+config-small p e = form-bounds p (length p) (exactly-size (configForm p) (length p) e) .1

@@ -1,0 +1,4 @@
+mod Bytes
+mod Rows
+pub mod Laws
+pub mod Examples

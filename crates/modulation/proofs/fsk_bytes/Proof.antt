@@ -1,0 +1,102 @@
+-- What the calls promised; a byte modulo 256 is itself, and the rest computes.
+-- Assumes nothing.
+use native.Mathlib.Omega.{arith}
+use Rattle.buffer.specs.Lay.{lay}
+use Rattle.scalar.specs.Scalars.{le}
+use Rattle.modulation.specs.Fsk.{fskBytes}
+use Rattle.modulation.proofs.Bytes.{byte}
+use borrow.Author.Needs.{needs}
+use Rattle.modulation.proofs.fsk_bytes.Statement.{statement}
+use Rattle.modulation.proofs.fsk_bytes.Tie as tie
+
+bytes-of-u32-requires : tie.Need-bytes-of-u32-requires
+bytes-of-u32-requires c κs = search needs
+
+bytes-of-u32-requires-2 : tie.Need-bytes-of-u32-requires-2
+bytes-of-u32-requires-2 c κs = search needs
+
+bytes-of-u32-requires-3 : tie.Need-bytes-of-u32-requires-3
+bytes-of-u32-requires-3 c κs = search needs
+
+bytes-of-u16-requires : tie.Need-bytes-of-u16-requires
+bytes-of-u16-requires c κs = search needs
+
+array-read-t10 : tie.Need-array-read-t10
+array-read-t10 c = search needs
+
+array-read-t13 : tie.Need-array-read-t13
+array-read-t13 c = search needs
+
+array-read-t16 : tie.Need-array-read-t16
+array-read-t16 c = search needs
+
+array-read-t19 : tie.Need-array-read-t19
+array-read-t19 c = search needs
+
+array-read-t22 : tie.Need-array-read-t22
+array-read-t22 c = search needs
+
+array-read-t25 : tie.Need-array-read-t25
+array-read-t25 c = search needs
+
+array-read-t28 : tie.Need-array-read-t28
+array-read-t28 c = search needs
+
+array-read-t31 : tie.Need-array-read-t31
+array-read-t31 c = search needs
+
+array-read-t34 : tie.Need-array-read-t34
+array-read-t34 c = search needs
+
+array-read-t37 : tie.Need-array-read-t37
+array-read-t37 c = search needs
+
+array-read-t40 : tie.Need-array-read-t40
+array-read-t40 c = search needs
+
+array-read-t43 : tie.Need-array-read-t43
+array-read-t43 c = search needs
+
+array-read-t46 : tie.Need-array-read-t46
+array-read-t46 c = search needs
+
+array-read-t49 : tie.Need-array-read-t49
+array-read-t49 c = search needs
+
+returns : tie.Need-returns
+unfolding fskBytes lay le
+returns c =
+    let s = c .before .before .before .before in
+    let m = s .args .m in
+    rw (
+      c .before .before .before .bytes-of-u32 .ensures,
+      c .before .before .bytes-of-u322 .ensures,
+      c .before .bytes-of-u323 .ensures,
+      c .bytes-of-u16 .ensures,
+      byte (m .«rx_bw») (omega (arith, s .good)),
+      byte (m .«sync_word_len») (omega (arith, s .good)),
+    )
+
+pub fsk-bytes-spec : {M : Type 1} → statement M
+fsk-bytes-spec =
+    tie.close
+    (tie.spec
+    bytes-of-u32-requires
+    bytes-of-u32-requires-2
+    bytes-of-u32-requires-3
+    bytes-of-u16-requires
+    array-read-t10
+    array-read-t13
+    array-read-t16
+    array-read-t19
+    array-read-t22
+    array-read-t25
+    array-read-t28
+    array-read-t31
+    array-read-t34
+    array-read-t37
+    array-read-t40
+    array-read-t43
+    array-read-t46
+    array-read-t49
+    returns)

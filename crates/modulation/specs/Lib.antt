@@ -1,0 +1,4 @@
+pub mod Lora
+pub mod Fsk
+pub mod Modulations
+pub mod Ranges
