@@ -1,0 +1,48 @@
+-- Each answer is where the chain of tests in its definition ends.
+-- Assumes nothing.
+use mathlib.Core.Path.{sym, ap, _∙_}
+use Rattle.command.specs.Commands.{readCommand}
+use Rattle.command.specs.declared.Asked.the-variants as A
+use borrow.Author.Needs.{needs}
+use Rattle.command.proofs.read_command.Statement.{statement}
+use Rattle.command.proofs.read_command.Tie as tie
+
+is-command-requires : tie.Need-is-command-requires
+is-command-requires c κs = search needs
+
+command-form-requires : tie.Need-command-form-requires
+command-form-requires c κs = search needs
+
+exactly-requires : tie.Need-exactly-requires
+exactly-requires c κs = search needs
+
+command-of-requires : tie.Need-command-of-requires
+command-of-requires c κs = sym (rw (c .before .before .command-form .ensures) at (c .before .exactly .ensures)) ∙ c .if2 .taken
+
+returns : tie.Need-returns
+unfolding readCommand
+returns c =
+    let e = sym (rw (c .before .before .before .command-form .ensures) at (c .before .before .exactly .ensures)) ∙ c .before .if2 .taken in
+    rw (sym (c .before .before .before .before .before .is-command .ensures) ∙ c .before .before .before .before .if1 .taken, e) (ap A.Command (c .command-of .ensures))
+
+returns-2 : tie.Need-returns-2
+unfolding readCommand
+returns-2 c =
+    let e = sym (rw (c .before .before .command-form .ensures) at (c .before .exactly .ensures)) ∙ c .if2 .left in
+    rw (sym (c .before .before .before .before .is-command .ensures) ∙ c .before .before .before .if1 .taken, e)
+
+returns-3 : tie.Need-returns-3
+unfolding readCommand
+returns-3 c = rw (sym (c .before .is-command .ensures) ∙ c .if1 .left)
+
+pub read-command-spec : {M : Type 1} → statement M
+read-command-spec =
+    tie.close
+    (tie.spec
+    is-command-requires
+    command-form-requires
+    exactly-requires
+    command-of-requires
+    returns
+    returns-2
+    returns-3)
