@@ -1,0 +1,66 @@
+-- By the case that the match found.
+-- Assumes nothing.
+use borrow.Author.Needs.{needs}
+use Rattle.answer.proofs.ok_form.Statement.{statement}
+use Rattle.answer.proofs.ok_form.Tie as tie
+
+enum-told : tie.Need-enum-told
+enum-told c = search needs
+
+info-form-requires : tie.Need-info-form-requires
+info-form-requires c κs = search needs
+
+enum-told-2 : tie.Need-enum-told-2
+enum-told-2 c = search needs
+
+configured-form-requires : tie.Need-configured-form-requires
+configured-form-requires c κs = search needs
+
+enum-told-3 : tie.Need-enum-told-3
+enum-told-3 c = search needs
+
+enum-told-4 : tie.Need-enum-told-4
+enum-told-4 c = search needs
+
+enum-told-5 : tie.Need-enum-told-5
+enum-told-5 c = search needs
+
+enum-told-6 : tie.Need-enum-told-6
+enum-told-6 c = search needs
+
+returns : tie.Need-returns
+returns c = rw (c .before .enum-told .given .1) (c .info-form .ensures)
+
+returns-2 : tie.Need-returns-2
+returns-2 c = rw (c .before .enum-told2 .given .1) (c .configured-form .ensures)
+
+returns-3 : tie.Need-returns-3
+returns-3 c = search needs
+
+returns-4 : tie.Need-returns-4
+returns-4 c = search needs
+
+returns-5 : tie.Need-returns-5
+returns-5 c = search needs
+
+returns-6 : tie.Need-returns-6
+returns-6 c = search needs
+
+pub ok-form-spec : {M : Type 1} → statement M
+ok-form-spec =
+    tie.close
+    (tie.spec
+    enum-told
+    info-form-requires
+    enum-told-2
+    configured-form-requires
+    enum-told-3
+    enum-told-4
+    enum-told-5
+    enum-told-6
+    returns
+    returns-2
+    returns-3
+    returns-4
+    returns-5
+    returns-6)

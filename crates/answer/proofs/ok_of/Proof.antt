@@ -1,0 +1,111 @@
+-- By the case that the match found; the form says that the bytes are there.
+-- Assumes nothing.
+use mathlib.Core.Path.{ap, _∙_}
+use native.Mathlib.Omega.{arith}
+use borrow.Rule.Slice.PartAt.{part-to-end}
+use Rattle.scalar.proofs.Laws.{get-byte}
+use Rattle.modulation.specs.Modulations.{configOf}
+use Rattle.answer.specs.Answers.{configuredOf}
+use Rattle.answer.specs.declared.Answer.the-variants as A
+use Rattle.answer.proofs.Steps.{configured-there}
+use borrow.Author.Needs.{needs}
+use Rattle.answer.proofs.ok_of.Statement.{statement}
+use Rattle.answer.proofs.ok_of.Tie as tie
+
+enum-told : tie.Need-enum-told
+enum-told c = search needs
+
+info-of-requires : tie.Need-info-of-requires
+info-of-requires c κs = rw (c .enum-told .given .1) at (c .before .before .before .pre)
+
+enum-told-2 : tie.Need-enum-told-2
+enum-told-2 c = search needs
+
+sub-config-of : tie.Need-sub-config-of
+sub-config-of c =
+    configured-there (c .before .before .before .args .payload .now) (rw (c .enum-told2 .given .1) at (c .before .before .before .pre)) .0
+
+part-config-of-start : tie.Need-part-config-of-start
+part-config-of-start c =
+    configured-there (c .before .before .before .args .payload .now) (rw (c .enum-told2 .given .1) at (c .before .before .before .pre)) .0
+
+part-config-of-end : tie.Need-part-config-of-end
+part-config-of-end c = search needs
+
+config-of-requires : tie.Need-config-of-requires
+config-of-requires c κs =
+    let p = c .before .before .before .before .args .payload .now in
+    rw (part-to-end p 2) (configured-there p (rw (c .before .enum-told2 .given .1) at (c .before .before .before .before .pre)) .1)
+
+shared-slice-read-t11 : tie.Need-shared-slice-read-t11
+shared-slice-read-t11 c =
+    let h = configured-there (c .before .before .before .before .before .before .args .payload .now) (rw (c .before .before .before .enum-told2 .given .1) at (c .before .before .before .before .before .before .pre)) .0 in
+    omega arith
+
+shared-slice-read-t13 : tie.Need-shared-slice-read-t13
+shared-slice-read-t13 c =
+    let h = configured-there (c .before .before .before .before .before .before .before .args .payload .now) (rw (c .before .before .before .before .enum-told2 .given .1) at (c .before .before .before .before .before .before .before .pre)) .0 in
+    omega arith
+
+enum-told-3 : tie.Need-enum-told-3
+enum-told-3 c = search needs
+
+enum-told-4 : tie.Need-enum-told-4
+enum-told-4 c = search needs
+
+enum-told-5 : tie.Need-enum-told-5
+enum-told-5 c = search needs
+
+enum-told-6 : tie.Need-enum-told-6
+enum-told-6 c = search needs
+
+returns : tie.Need-returns
+returns c = rw (c .before .enum-told .given .1) (ap A.Info (c .info-of .ensures))
+
+returns-2 : tie.Need-returns-2
+unfolding configuredOf
+returns-2 c =
+    let p = c .before .before .before .before .before .before .before .args .payload .now in
+    let h = configured-there p (rw (c .before .before .before .before .enum-told2 .given .1) at (c .before .before .before .before .before .before .before .pre)) .0 in
+    rw (c .before .before .before .before .enum-told2 .given .1)
+    (λ i. A.Configured record {
+      result = get-byte 0 p (omega arith) i;
+      owner = get-byte 1 p (omega arith) i;
+      current = (c .before .before .config-of .ensures ∙ ap configOf (part-to-end p 2)) i;
+    })
+
+returns-3 : tie.Need-returns-3
+returns-3 c = search needs
+
+returns-4 : tie.Need-returns-4
+returns-4 c = search needs
+
+returns-5 : tie.Need-returns-5
+returns-5 c = search needs
+
+returns-6 : tie.Need-returns-6
+returns-6 c = search needs
+
+pub ok-of-spec : {M : Type 1} → statement M
+ok-of-spec =
+    tie.close
+    (tie.spec
+    enum-told
+    info-of-requires
+    enum-told-2
+    sub-config-of
+    part-config-of-start
+    part-config-of-end
+    config-of-requires
+    shared-slice-read-t11
+    shared-slice-read-t13
+    enum-told-3
+    enum-told-4
+    enum-told-5
+    enum-told-6
+    returns
+    returns-2
+    returns-3
+    returns-4
+    returns-5
+    returns-6)

@@ -1,0 +1,52 @@
+-- Two bytes, and the configuration after them.
+-- Assumes nothing.
+use mathlib.Core.Path.{_∙_}
+use mathlib.Core.List.{_∷_}
+use native.Mathlib.Omega.{arith}
+use lib.ListN.{set, length-set}
+use Rattle.buffer.proofs.Laws.{lay-next}
+use Rattle.modulation.specs.Modulations.{configBytes}
+use Rattle.answer.proofs.Steps.{configured-bytes}
+use Rattle.answer.proofs.put_configured.Statement.{statement}
+use Rattle.answer.proofs.put_configured.Tie as tie
+
+slice-write-dst : tie.Need-slice-write-dst
+slice-write-dst c =
+    let s = c .before .before in
+    let e = configured-bytes (s .args .m) (s .args .word .now) (omega (arith, s .good)) (omega (arith, s .good)) in
+    omega (arith, rw e at (s .pre))
+
+slice-write-dst-2 : tie.Need-slice-write-dst-2
+slice-write-dst-2 c =
+    let s = c .before .before in
+    let e = configured-bytes (s .args .m) (s .args .word .now) (omega (arith, s .good)) (omega (arith, s .good)) in
+    rw length-set (omega (arith, rw e at (s .pre)))
+
+put-config-requires : tie.Need-put-config-requires
+put-config-requires c κs =
+    let s = c .before .before .before in
+    let e = configured-bytes (s .args .m) (s .args .word .now) (omega (arith, s .good)) (omega (arith, s .good)) in
+    rw (length-set, length-set) (omega (arith, rw e at (s .pre)))
+
+same-length : tie.Need-same-length
+same-length c = c .before .before .put-config .kept .1 .1 .0 ∙ simp length-set
+
+returns : tie.Need-returns
+returns c =
+    let s = c .before .before .before .before .before .before in
+    let m = s .args .m in
+    let d = s .args .dst .now in
+    let b = configBytes (m .current) (s .args .word .now) in
+    let e = configured-bytes m (s .args .word .now) (omega (arith, s .good)) (omega (arith, s .good)) in
+    let h = rw e at (s .pre) in
+    let k = length-set d 0 (m .result) in
+    rw e (
+      omega (arith, c .before .before .put-config .ensures .0),
+      c .before .before .put-config .ensures .1
+          ∙ lay-next 1 (m .owner) b (set d 0 (m .result)) (omega arith)
+          ∙ lay-next 0 (m .result) (m .owner ∷ b) d (omega arith),
+    )
+
+pub put-configured-spec : {M : Type 1} → statement M
+put-configured-spec =
+    tie.close (tie.spec slice-write-dst slice-write-dst-2 put-config-requires same-length returns)

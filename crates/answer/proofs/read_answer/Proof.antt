@@ -1,0 +1,48 @@
+-- Each answer is where the chain of tests in its definition ends.
+-- Assumes nothing.
+use mathlib.Core.Path.{sym, ap, _∙_}
+use Rattle.answer.specs.Answers.{readAnswer}
+use Rattle.answer.specs.declared.Answered.the-variants as D
+use borrow.Author.Needs.{needs}
+use Rattle.answer.proofs.read_answer.Statement.{statement}
+use Rattle.answer.proofs.read_answer.Tie as tie
+
+is-answer-requires : tie.Need-is-answer-requires
+is-answer-requires c κs = search needs
+
+answer-form-requires : tie.Need-answer-form-requires
+answer-form-requires c κs = search needs
+
+at-least-requires : tie.Need-at-least-requires
+at-least-requires c κs = search needs
+
+answer-of-requires : tie.Need-answer-of-requires
+answer-of-requires c κs = sym (rw (c .before .before .answer-form .ensures) at (c .before .at-least .ensures)) ∙ c .if2 .taken
+
+returns : tie.Need-returns
+unfolding readAnswer
+returns c =
+    let e = sym (rw (c .before .before .before .answer-form .ensures) at (c .before .before .at-least .ensures)) ∙ c .before .if2 .taken in
+    rw (sym (c .before .before .before .before .before .is-answer .ensures) ∙ c .before .before .before .before .if1 .taken, e) (ap D.Answer (c .answer-of .ensures))
+
+returns-2 : tie.Need-returns-2
+unfolding readAnswer
+returns-2 c =
+    let e = sym (rw (c .before .before .answer-form .ensures) at (c .before .at-least .ensures)) ∙ c .if2 .left in
+    rw (sym (c .before .before .before .before .is-answer .ensures) ∙ c .before .before .before .if1 .taken, e)
+
+returns-3 : tie.Need-returns-3
+unfolding readAnswer
+returns-3 c = rw (sym (c .before .is-answer .ensures) ∙ c .if1 .left)
+
+pub read-answer-spec : {M : Type 1} → statement M
+read-answer-spec =
+    tie.close
+    (tie.spec
+    is-answer-requires
+    answer-form-requires
+    at-least-requires
+    answer-of-requires
+    returns
+    returns-2
+    returns-3)

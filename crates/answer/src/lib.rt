@@ -1,0 +1,271 @@
+// The four answers and their payloads: P 6.7 to 6.10, with the OK's payloads of P 6.2 and 6.3.
+ghost use mathlib.Core.Path.{_≡_};
+ghost use mathlib.Core.List.{_++_};
+ghost use mathlib.Core.Bool.{true};
+ghost use Prim.Native.Nat.{_≤_};
+ghost use lib.ListN.{length};
+ghost use Rattle.buffer.specs.Lay.{lay};
+ghost use Rattle.form.specs.Forms.{atLeast};
+ghost use Rattle.answer.specs.Answers.{answerBytes, answerForm, answerOf, answerKind, answerName, configuredBytes, configuredForm, okForm, okOf, readAnswer, txDoneBytes, txDoneForm};
+use form::Form;
+use info::Info;
+use kind::ERR;
+use kind::Name;
+use kind::OK;
+use kind::RX;
+use kind::TX_DONE;
+use modulation::Modulation;
+use numbers::Refusal;
+use rx::Rx;
+
+// The bytes of an OK to SET_CONFIG before the configuration: P 6.3.
+const CONFIGURED_SIZE: usize = 2;
+// The highest result and owner.
+const CONFIGURED_MAX: u8 = 2;
+// The bytes of an ERR: P 6.8.
+const ERR_SIZE: usize = 2;
+// The bytes of a TX_DONE: P 6.10.
+const TX_DONE_SIZE: usize = 5;
+// The highest result.
+const TX_DONE_MAX: u8 = 2;
+
+// What SET_CONFIG led to: P 6.3. An FSK configuration's sync word stays in the caller's bytes.
+pub struct Configured {
+    pub result: u8,
+    pub owner: u8,
+    pub current: Modulation,
+}
+
+// An answer. The bytes of variable length stay beside it, in the caller's memory: an RX's packet,
+// an FSK configuration's sync word, the uids.
+pub enum Answer {
+    // OK to PING, TX, RX_START or RX_STOP.
+    Ok,
+    // OK to GET_INFO.
+    Info(Info),
+    // OK to SET_CONFIG.
+    Configured(Configured),
+    Err { code: u16 },
+    Rx(Rx),
+    TxDone { result: u8, airtime_us: u32 },
+}
+
+// What reading a payload answers.
+pub enum Answered {
+    Answer(Answer),
+    Refused(Refusal),
+}
+
+// Reads a payload of some type as an answer; an OK as that to the command of this name.
+pub fn read_answer(kind: u8, name: Name, payload: &[u8]) -> Answered
+    ensures { λ r. ⌜ r ≡ readAnswer kind name (now (payload .entry)) ⌝ }
+{
+    if kind::is_answer(kind) {
+        if form::at_least(answer_form(kind, name, payload), payload.len()) {
+            return Answered::Answer(answer_of(kind, name, payload));
+        }
+        return Answered::Refused(Refusal::Form);
+    }
+    Answered::Refused(Refusal::Type)
+}
+
+// The answer in a payload of its form.
+fn answer_of(kind: u8, name: Name, payload: &[u8]) -> Answer
+    requires { ⌜ atLeast (answerForm kind name (now payload)) (length (now payload)) ≡ true ⌝ }
+    ensures { λ r. ⌜ r ≡ answerOf kind name (now (payload .entry)) ⌝ }
+{
+    if kind == OK {
+        return ok_of(name, payload);
+    }
+    if kind == ERR {
+        let code = scalar::u16_at(payload, 0);
+        return Answer::Err { code };
+    }
+    if kind == RX {
+        return Answer::Rx(rx::rx_of(payload));
+    }
+    let airtime_us = scalar::u32_at(payload, 1);
+    Answer::TxDone {
+        result: payload[0],
+        airtime_us,
+    }
+}
+
+// The form of an answer's payload; of an OK's as that to the command of this name.
+pub fn answer_form(kind: u8, name: Name, payload: &[u8]) -> Form
+    ensures { λ r. ⌜ r ≡ answerForm kind name (now (payload .entry)) ⌝ }
+{
+    if kind == OK {
+        return ok_form(name, payload);
+    }
+    if kind == ERR {
+        return Form::Size(ERR_SIZE);
+    }
+    if kind == RX {
+        return rx::rx_form(payload);
+    }
+    tx_done_form(payload)
+}
+
+// The form of an OK's payload.
+fn ok_form(name: Name, payload: &[u8]) -> Form
+    ensures { λ r. ⌜ r ≡ okForm name (now (payload .entry)) ⌝ }
+{
+    match name {
+        Name::GetInfo => info::info_form(payload),
+        Name::SetConfig => configured_form(payload),
+        Name::Ping => Form::Size(0),
+        Name::Tx => Form::Size(0),
+        Name::RxStart => Form::Size(0),
+        Name::RxStop => Form::Size(0),
+    }
+}
+
+// The form of the payload of an OK to SET_CONFIG.
+fn configured_form(payload: &[u8]) -> Form
+    ensures { λ r. ⌜ r ≡ configuredForm (now (payload .entry)) ⌝ }
+{
+    if payload.len() < CONFIGURED_SIZE {
+        return Form::Wrong;
+    }
+    let result = payload[0];
+    if CONFIGURED_MAX < result {
+        return Form::Wrong;
+    }
+    let owner = payload[1];
+    if CONFIGURED_MAX < owner {
+        return Form::Wrong;
+    }
+    match modulation::config_form(&payload[CONFIGURED_SIZE..]) {
+        Form::Size(n) => Form::Size(CONFIGURED_SIZE + n),
+        Form::Wrong => Form::Wrong,
+    }
+}
+
+// The form of a TX_DONE's payload.
+fn tx_done_form(payload: &[u8]) -> Form
+    ensures { λ r. ⌜ r ≡ txDoneForm (now (payload .entry)) ⌝ }
+{
+    if payload.len() < TX_DONE_SIZE {
+        return Form::Wrong;
+    }
+    let result = payload[0];
+    if TX_DONE_MAX < result {
+        return Form::Wrong;
+    }
+    Form::Size(TX_DONE_SIZE)
+}
+
+// The OK in a payload of its form.
+fn ok_of(name: Name, payload: &[u8]) -> Answer
+    requires { ⌜ atLeast (okForm name (now payload)) (length (now payload)) ≡ true ⌝ }
+    ensures { λ r. ⌜ r ≡ okOf name (now (payload .entry)) ⌝ }
+{
+    match name {
+        Name::GetInfo => Answer::Info(info::info_of(payload)),
+        Name::SetConfig => {
+            let current = modulation::config_of(&payload[CONFIGURED_SIZE..]);
+            Answer::Configured(Configured {
+                result: payload[0],
+                owner: payload[1],
+                current,
+            })
+        }
+        Name::Ping => Answer::Ok,
+        Name::Tx => Answer::Ok,
+        Name::RxStart => Answer::Ok,
+        Name::RxStop => Answer::Ok,
+    }
+}
+
+// The type of an answer.
+pub fn answer_kind(a: Answer) -> u8
+    ensures { λ r. ⌜ r ≡ answerKind a ⌝ }
+{
+    match a {
+        Answer::Ok => OK,
+        Answer::Info(_) => OK,
+        Answer::Configured(_) => OK,
+        Answer::Err { code: _ } => ERR,
+        Answer::Rx(_) => RX,
+        Answer::TxDone {
+            result: _,
+            airtime_us: _,
+        } => TX_DONE,
+    }
+}
+
+// The command that an OK answers; of several, the first.
+pub fn answer_name(a: Answer) -> Name
+    ensures { λ r. ⌜ r ≡ answerName a ⌝ }
+{
+    match a {
+        Answer::Ok => Name::Ping,
+        Answer::Info(_) => Name::GetInfo,
+        Answer::Configured(_) => Name::SetConfig,
+        Answer::Err { code: _ } => Name::Ping,
+        Answer::Rx(_) => Name::Ping,
+        Answer::TxDone {
+            result: _,
+            airtime_us: _,
+        } => Name::Ping,
+    }
+}
+
+// Writes the payload of an answer with its bytes, and answers how long it is. A helper of the
+// crates above: they show that it has room.
+pub fn put_answer(a: Answer, bytes: &[u8], dst: &mut [u8]) -> usize
+    requires { ⌜ length (answerBytes a (now bytes)) ≤ length (now dst) ⌝ }
+    ensures { λ r. ⌜ r ≡ length (answerBytes a (now (bytes .entry))) ⌝ }
+    ensures { λ _. ⌜ now (dst .exit) ≡ lay 0 (answerBytes a (now (bytes .entry))) (now (dst .entry)) ⌝ }
+{
+    match a {
+        Answer::Ok => put_parts(&[], bytes, dst),
+        Answer::Info(m) => info::put_info(m, bytes, dst),
+        Answer::Configured(m) => put_configured(m, bytes, dst),
+        Answer::Err { code } => {
+            let head = scalar::bytes_of_u16(code);
+            put_parts(&head, bytes, dst)
+        }
+        Answer::Rx(m) => {
+            let head = rx::rx_bytes(m);
+            put_parts(&head, bytes, dst)
+        }
+        Answer::TxDone { result, airtime_us } => {
+            let head = tx_done_bytes(result, airtime_us);
+            put_parts(&head, bytes, dst)
+        }
+    }
+}
+
+// Writes the payload of an OK to SET_CONFIG.
+fn put_configured(m: Configured, word: &[u8], dst: &mut [u8]) -> usize
+    requires { ⌜ length (configuredBytes m (now word)) ≤ length (now dst) ⌝ }
+    ensures { λ r. ⌜ r ≡ length (configuredBytes m (now (word .entry))) ⌝ }
+    ensures { λ _. ⌜ now (dst .exit) ≡ lay 0 (configuredBytes m (now (word .entry))) (now (dst .entry)) ⌝ }
+{
+    let current = m.current;
+    dst[0] = m.result;
+    dst[1] = m.owner;
+    modulation::put_config(current, word, dst, CONFIGURED_SIZE)
+}
+
+// The bytes of a TX_DONE.
+fn tx_done_bytes(result: u8, airtime: u32) -> [u8; TX_DONE_SIZE]
+    ensures { λ r. ⌜ r ≡ txDoneBytes result airtime ⌝ }
+{
+    let time = scalar::bytes_of_u32(airtime);
+    [result, time[0], time[1], time[2], time[3]]
+}
+
+// Writes fields, and bytes after them.
+fn put_parts(fields: &[u8], bytes: &[u8], dst: &mut [u8]) -> usize
+    requires { ⌜ length (now fields ++ now bytes) ≤ length (now dst) ⌝ }
+    ensures { λ r. ⌜ r ≡ length (now (fields .entry) ++ now (bytes .entry)) ⌝ }
+    ensures { λ _. ⌜ now (dst .exit) ≡ lay 0 (now (fields .entry) ++ now (bytes .entry)) (now (dst .entry)) ⌝ }
+{
+    let at = fields.len();
+    buffer::copy(fields, dst, 0);
+    buffer::copy(bytes, dst, at);
+    at + bytes.len()
+}

@@ -1,0 +1,4 @@
+pub mod Examples
+pub mod Laws
+mod Putting
+mod Rows

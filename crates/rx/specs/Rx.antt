@@ -1,0 +1,78 @@
+-- A received packet, RX: P 6.9; 01 "Numbers that come back", the RX columns. The packet's bytes follow them.
+-- Assumes nothing.
+use Prim.Native.Nat.{ℕ, _+_}
+use mathlib.Core.Bool.{cond}
+use mathlib.Core.List.{List}
+use lib.Dec.{ltb}
+use lib.ListN.{length, replicate, drop}
+use Rattle.scalar.specs.Scalars.{i16, i32, signed, unsigned, Column, column, get, put}
+use Rattle.form.specs.declared.Form.{Form}
+use Rattle.form.specs.declared.Form.the-variants as F
+use Rattle.rx.specs.declared.Rx.{Rx}
+
+-- offset and size
+abbrev rssi : Column
+rssi = column 0 2
+
+abbrev snr : Column
+snr = column 2 2
+
+abbrev freq-err : Column
+freq-err = column 4 4
+
+abbrev timestamp-us : Column
+timestamp-us = column 8 8
+
+abbrev crc-valid : Column
+crc-valid = column 16 1
+
+abbrev packets-dropped : Column
+packets-dropped = column 17 2
+
+abbrev origin : Column
+origin = column 19 1
+
+abbrev pub rxSize : ℕ
+rxSize = 20
+
+-- the longest packet
+abbrev pub rxMax : ℕ
+rxMax = 255
+
+-- 01, FORM: too few bytes; a packet over 255; crc_valid or origin over 1
+unfoldable pub rxForm : List ℕ → Form
+rxForm p =
+    cond (ltb (length p) rxSize) F.Wrong
+    (cond (ltb (rxSize + rxMax) (length p)) F.Wrong
+    (cond (ltb 1 (get crc-valid p)) F.Wrong
+    (cond (ltb 1 (get origin p)) F.Wrong
+    (F.Size (length p)))))
+
+-- the fields in a payload of that form
+unfoldable pub rxOf : List ℕ → Rx
+rxOf p =
+    record {
+      rssi = signed i16 (get rssi p);
+      snr = signed i16 (get snr p);
+      «freq_err» = signed i32 (get freq-err p);
+      «timestamp_us» = get timestamp-us p;
+      «crc_valid» = get crc-valid p;
+      «packets_dropped» = get packets-dropped p;
+      origin = get origin p;
+    }
+
+-- the packet
+abbrev pub rxPacket : List ℕ → List ℕ
+rxPacket p = drop rxSize p
+
+-- the bytes before the packet
+unfoldable pub rxBytes : Rx → List ℕ
+rxBytes m =
+    put rssi (unsigned i16 (m .rssi))
+    (put snr (unsigned i16 (m .snr))
+    (put freq-err (unsigned i32 (m .«freq_err»))
+    (put timestamp-us (m .«timestamp_us»)
+    (put crc-valid (m .«crc_valid»)
+    (put packets-dropped (m .«packets_dropped»)
+    (put origin (m .origin)
+    (replicate rxSize 0)))))))
