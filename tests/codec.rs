@@ -9,11 +9,13 @@
 //! Usage: codec [SEED]
 
 mod inputs;
+mod lent;
 mod model;
 
 use inputs::{Rng, LONGEST};
+use lent::{Lent, Pattern, LARGE};
 use model::{Crc, Fault, FULL};
-use std::{env, process, ptr};
+use std::process;
 
 extern "C" {
     fn donglora_crc16(src: *const u8, src_len: usize) -> u16;
@@ -44,18 +46,12 @@ const LENGTH: u8 = 6;
 const BODY_MAX: usize = 280;
 const ENCODED_MAX: usize = 282;
 
-const SEED: u64 = 0x444F_4E47_4C4F_5241;
 const ENCODE_CASES: usize = 450_000;
 const DECODE_CASES: usize = 600_000;
 const CRC_CASES: usize = 50_000;
 
-/// The largest destination of the random cases, and the least memory on each side of one that must
-/// stay as it was.
+/// The largest destination of the random cases.
 const ROOM_MAX: usize = LONGEST + 40;
-const GUARD: usize = 32;
-
-/// The first size that does not fit in 16 bits.
-const LARGE: usize = 1 << 16;
 
 /// The bytes written, or the number of the refusal.
 type Answer = Result<Vec<u8>, u8>;
@@ -126,22 +122,13 @@ struct Test {
     crc: Crc,
     /// For each length of a body the longest encoding, made by P's listing from nonzero bytes.
     longest: Vec<usize>,
-    /// What memory is filled with before a call. Each call starts at another place in it.
-    pattern: Vec<u8>,
+    pattern: Pattern,
     seen: [u64; CLASSES.len()],
     cases: u64,
 }
 
 fn main() {
-    let seed = match env::args().nth(1) {
-        None => SEED,
-        Some(text) => number(&text).unwrap_or_else(|| {
-            eprintln!("usage: codec [SEED], with SEED decimal or 0x and hex");
-            process::exit(2)
-        }),
-    };
-    println!("seed 0x{seed:016X}");
-    let mut test = Test::new(seed);
+    let mut test = Test::new(inputs::seed("codec"));
     test.every_size();
     test.every_short_source();
     test.large_sizes();
@@ -155,13 +142,6 @@ fn main() {
     test.report();
 }
 
-fn number(text: &str) -> Option<u64> {
-    match text.strip_prefix("0x") {
-        Some(digits) => u64::from_str_radix(digits, 16).ok(),
-        None => text.parse().ok(),
-    }
-}
-
 impl Test {
     fn new(seed: u64) -> Test {
         Test {
@@ -170,9 +150,7 @@ impl Test {
             longest: (0..=BODY_MAX)
                 .map(|n| listing_encoding(&vec![1; n]).len())
                 .collect(),
-            pattern: (0..256 + GUARD + 16 + LARGE + ROOM_MAX + GUARD)
-                .map(|i| (i * 37 + 11) as u8)
-                .collect(),
+            pattern: Pattern::new(ROOM_MAX),
             seen: [0; CLASSES.len()],
             cases: 0,
         }
@@ -367,25 +345,10 @@ impl Test {
 
     /// Calls the library once and compares all that the call left.
     fn compare(&mut self, way: Way, src: &[u8], room: usize, answer: &Answer, listing: &Answer) {
-        let from = self.rng.below(16);
-        let to = GUARD + self.rng.below(16);
-        let fill = self.rng.below(256);
-        let pattern = &self.pattern[fill..];
-        let before = Call {
-            way,
-            number: u8::MAX,
-            written: self.rng.draw() as usize,
-            source: [&pattern[..from], src].concat(),
-            from,
-            null_source: src.is_empty() && self.rng.one_in(2),
-            memory: pattern[..to + room + GUARD].to_vec(),
-            to,
-            room,
-            null_destination: room == 0 && self.rng.one_in(2),
-        };
-        let after = before.call();
-        if after != before.answered(answer) || answer != listing {
-            println!("case {} differs", self.cases);
+        let before = self.pattern.lend(&mut self.rng, src, room);
+        let after = way.call(&before);
+        if after != answered(&before, answer) || answer != listing {
+            println!("case {} differs: {way:?}", self.cases);
             println!("before: {before:02X?}");
             println!("after: {after:02X?}");
             println!("model.rs says {answer:02X?}");
@@ -418,17 +381,11 @@ impl Test {
     }
 
     fn compare_crc(&mut self, src: &[u8]) {
-        let from = self.rng.below(16);
-        let source = [&self.pattern[..from], src].concat();
-        let null = src.is_empty() && self.rng.one_in(2);
-        let start = if null {
-            ptr::null()
-        } else {
-            source[from..].as_ptr()
-        };
+        let mut lent = self.pattern.lend(&mut self.rng, src, 0);
+        let (start, len) = lent.source();
         // SAFETY: the block has the size that is passed.
-        let crc = unsafe { donglora_crc16(start, src.len()) };
-        let listing = unsafe { p_crc16(start, src.len()) };
+        let crc = unsafe { donglora_crc16(start, len) };
+        let listing = unsafe { p_crc16(start, len) };
         let model = self.crc.of(src);
         if crc != model || model != listing {
             println!("case {} differs: crc", self.cases);
@@ -437,7 +394,7 @@ impl Test {
             process::exit(1);
         }
         self.cases += 1;
-        self.count(NullSource, null);
+        self.count(NullSource, lent.null_source);
         self.count(CrcNone, src.is_empty());
         self.count(CrcSome, (1..=600).contains(&src.len()));
         self.count(CrcMany, src.len() > 600);
@@ -462,57 +419,32 @@ impl Test {
     }
 }
 
-/// A call: what it is given, and all that it can change. The source has some bytes before it, and
-/// the destination has some on each side, so that their alignment varies and these bytes can be
-/// seen to stay.
-#[derive(Clone, Debug, PartialEq)]
-struct Call {
-    way: Way,
-    number: u8,
-    written: usize,
-    source: Vec<u8>,
-    from: usize,
-    null_source: bool,
-    memory: Vec<u8>,
-    to: usize,
-    room: usize,
-    null_destination: bool,
-}
-
-impl Call {
-    /// What the library leaves.
-    fn call(&self) -> Call {
-        let mut after = self.clone();
-        let mut src = after.source.as_mut_ptr().wrapping_add(self.from);
-        let mut dst = after.memory.as_mut_ptr().wrapping_add(self.to);
-        if self.null_source {
-            src = ptr::null_mut();
-        }
-        if self.null_destination {
-            dst = ptr::null_mut();
-        }
-        let function = match self.way {
+impl Way {
+    /// The number that the library answers, and what it leaves.
+    fn call(self, before: &Lent) -> (u8, Lent) {
+        let mut after = before.clone();
+        let (src, src_len) = after.source();
+        let (dst, dst_len) = after.destination();
+        let function = match self {
             Way::Encode => donglora_cobs_encode,
             Way::Decode => donglora_cobs_decode,
         };
-        let len = self.source.len() - self.from;
         // SAFETY: both blocks have the sizes that are passed, and do not overlap.
-        after.number = unsafe { function(src, len, dst, self.room, &mut after.written) };
-        after
+        let number = unsafe { function(src, src_len, dst, dst_len, &mut after.written) };
+        (number, after)
     }
+}
 
-    /// What must be left for this answer: after a refusal, all but the number as before.
-    fn answered(&self, answer: &Answer) -> Call {
-        let mut after = self.clone();
-        match answer {
-            Ok(bytes) => {
-                after.number = TAKEN;
-                after.written = bytes.len();
-                after.memory[self.to..self.to + bytes.len()].copy_from_slice(bytes);
-            }
-            Err(number) => after.number = *number,
+/// The number of this answer, and what must be left: after a refusal, all as before.
+fn answered(before: &Lent, answer: &Answer) -> (u8, Lent) {
+    let mut after = before.clone();
+    match answer {
+        Ok(bytes) => {
+            after.written = bytes.len();
+            after.write(bytes);
+            (TAKEN, after)
         }
-        after
+        Err(number) => (*number, after),
     }
 }
 

@@ -1,12 +1,35 @@
-//! Random sources for the codec test: bodies to encode, and encodings, right and damaged, to decode.
+//! Random sources: bodies to encode, and encodings, right and damaged, to decode.
 
 use crate::model;
+use std::{env, process};
+
+const SEED: u64 = 0x444F_4E47_4C4F_5241;
 
 /// The longest source that is made by length; some kinds of damage add a byte.
 pub const LONGEST: usize = 290;
 
 /// Lengths at which a rule changes: the ends, a full group, the longest body and encoding.
 const EDGES: [usize; 11] = [0, 1, 253, 254, 255, 256, 279, 280, 281, 282, 283];
+
+/// The seed of a test: its argument, if it has one. Prints it.
+pub fn seed(test: &str) -> u64 {
+    let seed = match env::args().nth(1) {
+        None => SEED,
+        Some(text) => number(&text).unwrap_or_else(|| {
+            eprintln!("usage: {test} [SEED], with SEED decimal or 0x and hex");
+            process::exit(2)
+        }),
+    };
+    println!("seed 0x{seed:016X}");
+    seed
+}
+
+fn number(text: &str) -> Option<u64> {
+    match text.strip_prefix("0x") {
+        Some(digits) => u64::from_str_radix(digits, 16).ok(),
+        None => text.parse().ok(),
+    }
+}
 
 /// A xorshift generator, so that a seed gives the same cases on every machine.
 pub struct Rng(u64);
@@ -43,7 +66,7 @@ impl Rng {
         (self.draw() >> 56) as u8
     }
 
-    fn nonzero(&mut self) -> u8 {
+    pub fn nonzero(&mut self) -> u8 {
         1 + self.below(255) as u8
     }
 
@@ -67,7 +90,7 @@ impl Rng {
             .collect()
     }
 
-    fn nonzeros(&mut self, len: usize) -> Vec<u8> {
+    pub fn nonzeros(&mut self, len: usize) -> Vec<u8> {
         (0..len).map(|_| self.nonzero()).collect()
     }
 
@@ -162,7 +185,7 @@ impl Rng {
     }
 
     /// Changes one byte, or the length.
-    fn damage(&mut self, src: &mut Vec<u8>) {
+    pub fn damage(&mut self, src: &mut Vec<u8>) {
         if src.is_empty() {
             return src.push(self.byte());
         }

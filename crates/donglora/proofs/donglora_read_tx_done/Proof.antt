@@ -1,0 +1,92 @@
+-- What was received, and what its payload says: a message of this type has its fields.
+-- Assumes nothing.
+use mathlib.Core.Path.{refl, sym, _∙_}
+use native.Mathlib.Omega.{arith}
+use lib.ListN.{length, length-take, length-drop}
+use Rattle.frame.proofs.Laws.{opens-facts}
+use Rattle.message.specs.declared.Kinds.the-variants as K
+use Rattle.message.proofs.Steps.{was-open, payload-there}
+use Rattle.message.proofs.Kept.{tx-done-kept}
+use Rattle.donglora.specs.Reports.{txDoneReport}
+use borrow.Author.Needs.{needs}
+use Rattle.donglora.proofs.donglora_read_tx_done.Statement.{statement}
+use Rattle.donglora.proofs.donglora_read_tx_done.Tie as tie
+
+receive-requires : tie.Need-receive-requires
+receive-requires c κs = search needs
+
+enum-known-tag : tie.Need-enum-known-tag
+enum-known-tag c = search needs
+
+add-tx-done-report : tie.Need-add-tx-done-report
+add-tx-done-report c =
+    let s = c .before .before .before .before .before .before .before .before .before .args in
+    let e = sym (c .before .before .before .before .before .receive .ensures .0) ∙ c .before .tag .given .1 in
+    let o = opens-facts (s .run .now) (length (s .body .now)) (was-open K.TxDone (s .run .now) (s .body .now) e) in
+    omega (arith, o .most)
+
+sub-tx-done-report : tie.Need-sub-tx-done-report
+sub-tx-done-report c = search needs
+
+part-tx-done-report-start : tie.Need-part-tx-done-report-start
+part-tx-done-report-start c = search needs
+
+part-tx-done-report-end : tie.Need-part-tx-done-report-end
+part-tx-done-report-end c =
+    let s = c .before .before .before .before .before .before .before .before .before .before .args in
+    let e = sym (c .before .before .before .before .before .before .receive .ensures .0) ∙ c .before .before .tag .given .1 in
+    let o = opens-facts (s .run .now) (length (s .body .now)) (was-open K.TxDone (s .run .now) (s .body .now) e) in
+    omega (arith, o .long, o .inside, o .fits, c .before .before .before .before .before .before .receive .kept .1 .1 .0)
+
+tx-done-report-requires : tie.Need-tx-done-report-requires
+tx-done-report-requires c κs =
+    let s = c .before .before .before .before .before .before .before .before .before .before .before .args in
+    let e = sym (c .before .before .before .before .before .before .before .receive .ensures .0) ∙ c .before .before .before .tag .given .1 in
+    let o = opens-facts (s .run .now) (length (s .body .now)) (was-open K.TxDone (s .run .now) (s .body .now) e) in
+    let h = tx-done-kept (s .run .now) (s .body .now) e in
+    rw (length-take, length-drop) (omega (arith, o .long, o .inside, o .fits, c .before .before .before .before .before .before .before .receive .kept .1 .1 .0))
+
+enum-known-r : tie.Need-enum-known-r
+enum-known-r c = search needs
+
+refusal-number-requires : tie.Need-refusal-number-requires
+refusal-number-requires c κs = search needs
+
+same-length : tie.Need-same-length
+same-length c = search needs
+
+returns : tie.Need-returns
+unfolding txDoneReport
+returns c =
+    let s = c .before .before .before .before .before .before .before .before .before .before .before .before .args in
+    let e = sym (c .before .before .before .before .before .before .before .before .receive .ensures .0) ∙ c .before .before .before .before .tag .given .1 in
+    let o = opens-facts (s .run .now) (length (s .body .now)) (was-open K.TxDone (s .run .now) (s .body .now) e) in
+    let p = payload-there K.TxDone (s .run .now) (s .body .now) e in
+    rw e (rw (c .before .before .before .before .before .before .before .before .receive .ensures .1, p) at (c .tx-done-report .ensures), c .before .before .before .before .before .before .before .before .receive .ensures .1)
+
+same-length-2 : tie.Need-same-length-2
+same-length-2 c = search needs
+
+returns-2 : tie.Need-returns-2
+unfolding txDoneReport
+returns-2 c =
+    let e = sym (c .before .before .before .before .before .before .receive .ensures .0) ∙ c .before .before .r .given .1 in
+    rw (e, c .refusal-number .ensures) (refl, c .before .before .before .before .before .before .receive .ensures .1)
+
+pub donglora-read-tx-done-spec : {M : Type 1} → statement M
+donglora-read-tx-done-spec =
+    tie.close
+    (tie.spec
+    receive-requires
+    enum-known-tag
+    add-tx-done-report
+    sub-tx-done-report
+    part-tx-done-report-start
+    part-tx-done-report-end
+    tx-done-report-requires
+    enum-known-r
+    refusal-number-requires
+    same-length
+    returns
+    same-length-2
+    returns-2)
