@@ -1,0 +1,93 @@
+-- The loop keeps `Feeding`; the counters stay below the bytes that came.
+-- Assumes nothing.
+use mathlib.Core.Path.{ap}
+use Prim.Native.Nat.{_-_}
+use native.Mathlib.Omega.{arith}
+use lib.ListN.{length}
+use Rattle.line.specs.Stream.{Place, fed}
+use Rattle.line.proofs.Feeding.{Feeding, begins, line-fits, zero, kept-on, ends}
+use Rattle.line.proofs.feed.Statement.{statement}
+use Rattle.line.proofs.feed.Tie as tie
+
+abbrev Inv-loop : tie.InvT-loop
+Inv-loop piece run₀ dst₀ at₀ len₀ filled₀ i₀ run dst at len filled i = Feeding piece run₀ dst₀ at₀ len₀ filled₀ run dst at len filled i
+
+abbrev μ-loop : tie.MeasureT-loop
+μ-loop piece run₀ dst₀ at₀ len₀ filled₀ i₀ run dst at len filled i = length piece - i
+
+loop-holds : tie.Need-loop-holds Inv-loop μ-loop
+loop-holds c = begins _ _ _ _ _ _ (c .before .before .before .pre .1 .1)
+
+shared-slice-read-b : tie.Need-shared-slice-read-b Inv-loop μ-loop
+shared-slice-read-b c = omega arith
+
+add-i : tie.Need-add-i Inv-loop μ-loop
+add-i c = omega arith
+
+write-line-requires : tie.Need-write-line-requires Inv-loop μ-loop
+write-line-requires c κs =
+    (omega (arith, c .before .before .before .before .before .loop .inv .long, c .before .before .before .before .before .before .before .before .before .pre .1 .0), line-fits (c .before .before .before .before .before .loop .inv) (c .before .before .before .before .loop-test .taken) (c .before .before .if1 .taken))
+
+add-at : tie.Need-add-at Inv-loop μ-loop
+add-at c =
+    omega (arith, c .before .before .before .before .before .before .before .before .loop .inv .count, c .before .before .before .before .before .before .before .loop-test .taken, c .before .before .before .before .before .before .before .before .before .before .before .before .pre .0)
+
+add-at-2 : tie.Need-add-at-2 Inv-loop μ-loop
+add-at-2 c =
+    omega (arith, c .before .before .before .before .before .before .before .before .loop .inv .count, c .before .before .before .before .before .before .before .loop-test .taken, c .before .before .before .before .before .before .before .before .before .before .before .before .pre .0)
+
+loop-less : tie.Need-loop-less Inv-loop μ-loop
+loop-less c = omega (arith, c .before .before .before .before .before .before .before .loop-test .taken)
+
+loop-again : tie.Need-loop-again Inv-loop μ-loop
+loop-again c =
+    zero (c .before .before .before .before .before .before .before .before .loop .inv) (c .before .before .before .before .before .before .before .loop-test .taken) (c .before .before .before .before .before .if1 .taken) (c .before .before .write-line .ensures)
+
+keep-requires : tie.Need-keep-requires Inv-loop μ-loop
+keep-requires c κs =
+    omega (arith, c .before .before .before .before .loop .inv .long, c .before .before .before .before .before .before .before .before .pre .1 .0)
+
+add-len : tie.Need-add-len Inv-loop μ-loop
+add-len c =
+    omega (arith, c .before .before .before .before .before .before .before .loop .inv .count, c .before .before .before .before .before .before .loop-test .taken, c .before .before .before .before .before .before .before .before .before .before .before .pre .0)
+
+loop-less-2 : tie.Need-loop-less-2 Inv-loop μ-loop
+loop-less-2 c = omega (arith, c .before .before .before .before .before .before .loop-test .taken)
+
+loop-again-2 : tie.Need-loop-again-2 Inv-loop μ-loop
+loop-again-2 c =
+    kept-on (c .before .before .before .before .before .before .before .loop .inv) (c .before .before .before .before .before .before .loop-test .taken) (c .before .before .before .before .if1 .left) (c .before .before .keep .ensures) (c .before .before .keep .kept .1 .1 .0)
+
+same-length : tie.Need-same-length Inv-loop μ-loop
+same-length c = c .before .loop .inv .long
+
+same-length-2 : tie.Need-same-length-2 Inv-loop μ-loop
+same-length-2 c = c .before .loop .inv .laying .long
+
+returns : tie.Need-returns Inv-loop μ-loop
+unfolding fed
+returns c =
+    let e = ends (c .before .loop .inv) (c .loop-test .left) in
+    (λ i. record { at = e .0 i .at; len = e .0 i .len; filled = e .1 i }, (ap (λ (p : Place). p .kept) (e .0), e .2))
+
+pub feed-spec : {M : Type 1} → statement M
+feed-spec =
+    tie.close
+    (tie.spec
+    Inv-loop
+    μ-loop
+    loop-holds
+    shared-slice-read-b
+    add-i
+    write-line-requires
+    add-at
+    add-at-2
+    loop-less
+    loop-again
+    keep-requires
+    add-len
+    loop-less-2
+    loop-again-2
+    same-length
+    same-length-2
+    returns)

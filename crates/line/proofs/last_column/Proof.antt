@@ -1,0 +1,53 @@
+-- Each call lays the next piece of the line.
+-- Assumes nothing.
+use Rattle.buffer.proofs.Laying.{start, fits}
+use Rattle.line.specs.Text.{text}
+use Rattle.line.specs.Lines.{decimal, lastColumn}
+use Rattle.line.proofs.Writing.{wrote, last-fits, ended}
+use borrow.Author.Needs.{needs}
+use Rattle.line.proofs.last_column.Statement.{statement}
+use Rattle.line.proofs.last_column.Tie as tie
+
+slice-aggregate-put : tie.Need-slice-aggregate-put
+slice-aggregate-put c = search needs
+
+put-requires : tie.Need-put-requires
+put-requires c κs = search needs
+
+decimal-requires : tie.Need-decimal-requires
+decimal-requires c κs =
+    let l0 = start _ (lastColumn (c .before .before .before .before .before .before .before .args .n)) _ (c .before .before .before .before .before .before .before .pre) in
+    let l1 = wrote (text " ") _ l0 (c .before .before .before .put .ensures) in
+    fits (decimal (c .before .before .before .before .before .before .before .args .n)) _ l1
+
+slice-aggregate-put-2 : tie.Need-slice-aggregate-put-2
+slice-aggregate-put-2 c = search needs
+
+put-requires-2 : tie.Need-put-requires-2
+put-requires-2 c κs =
+    let l0 = start _ (lastColumn (c .before .before .before .before .before .before .before .before .before .before .before .before .args .n)) _ (c .before .before .before .before .before .before .before .before .before .before .before .before .pre) in
+    let l1 = wrote (text " ") _ l0 (c .before .before .before .before .before .before .before .before .put .ensures) in
+    let l2 = wrote (decimal (c .before .before .before .before .before .before .before .before .before .before .before .before .args .n)) _ l1 (c .before .before .before .before .decimal .ensures) in
+    last-fits l2
+
+same-length : tie.Need-same-length
+same-length c = search needs
+
+returns : tie.Need-returns
+returns c =
+    let l0 = start _ (lastColumn (c .before .before .before .before .before .before .before .before .before .before .before .before .before .before .before .args .n)) _ (c .before .before .before .before .before .before .before .before .before .before .before .before .before .before .before .pre) in
+    let l1 = wrote (text " ") _ l0 (c .before .before .before .before .before .before .before .before .before .before .before .put .ensures) in
+    let l2 = wrote (decimal (c .before .before .before .before .before .before .before .before .before .before .before .before .before .before .before .args .n)) _ l1 (c .before .before .before .before .before .before .before .decimal .ensures) in
+    ended _ l2 (c .before .before .put2 .ensures)
+
+pub last-column-spec : {M : Type 1} → statement M
+last-column-spec =
+    tie.close
+    (tie.spec
+    slice-aggregate-put
+    put-requires
+    decimal-requires
+    slice-aggregate-put-2
+    put-requires-2
+    same-length
+    returns)

@@ -1,0 +1,24 @@
+-- The text is the definition's.
+-- Assumes nothing.
+use Rattle.line.specs.Lines.{heading}
+use Rattle.line.specs.Stream.{started}
+use borrow.Author.Needs.{needs}
+use Rattle.line.proofs.start.Statement.{statement}
+use Rattle.line.proofs.start.Tie as tie
+
+slice-aggregate-put : tie.Need-slice-aggregate-put
+slice-aggregate-put c = search needs
+
+put-requires : tie.Need-put-requires
+unfolding heading
+put-requires c κs = c .before .before .before .pre
+
+same-length : tie.Need-same-length
+same-length c = search needs
+
+returns : tie.Need-returns
+unfolding heading started
+returns c = (λ i. record { at = 0; len = 0; filled = c .before .before .put .ensures .0 i }, c .before .before .put .ensures .1)
+
+pub start-spec : {M : Type 1} → statement M
+start-spec = tie.close (tie.spec slice-aggregate-put put-requires same-length returns)

@@ -1,0 +1,83 @@
+-- The listing piece by piece: what is kept between two pieces of a capture, and what each piece adds to the output.
+-- proofs/Pieces.antt joins it to `listing`.
+-- Assumes nothing.
+use Prim.Native.Nat.{ℕ, _+_}
+use mathlib.Core.Bool.{cond}
+use mathlib.Core.List.{List, [], _∷_, _++_}
+use lib.Dec.{ltb, eqb}
+use lib.ListN.{length, take, set}
+use Rattle.numbers.specs.declared.Refusal.the-variants as R
+use Rattle.cobs.specs.Answers.{encodedMax}
+use Rattle.frame.specs.Reading.{openAnswer}
+use Rattle.frame.specs.declared.Opened.{Opened}
+use Rattle.frame.specs.declared.Opened.the-variants as O
+use Rattle.line.specs.Lines.{heading, line}
+use Rattle.line.specs.declared.Stream.{Stream}
+
+-- the longest line: 20 digits, a space, 10 letters, a space, 4 digits, a space, 20 digits and the line end
+abbrev pub lineMax : ℕ
+lineMax = 58
+
+-- ---- one run
+
+-- the memory with the byte b of a run that has n bytes before it: none past the 282nd is kept
+unfoldable pub keep : ℕ → ℕ → List ℕ → List ℕ
+keep n b kept = cond (ltb n encodedMax) (set kept n b) kept
+
+-- what opening a run of n bytes answers, whose first are kept: a longer one than 282 is refused, whatever its bytes
+unfoldable pub openRun : ℕ → List ℕ → Opened
+openRun n kept = cond (ltb encodedMax n) (O.Refused R.Length) (openAnswer (take n kept) encodedMax)
+
+-- its line, at an offset; an empty run has none
+unfoldable pub lineRun : ℕ → ℕ → List ℕ → List ℕ
+lineRun at n kept = cond (eqb n 0) [] (line at (openRun n kept) n)
+
+-- ---- a capture
+
+-- where a capture stands: the offset of the run, its length so far, and the memory with its first bytes
+pub record Place : Type 0 where
+  pub at : ℕ
+  pub len : ℕ
+  pub kept : List ℕ
+
+-- after the byte b: a zero ends the run, and the next one begins past it
+unfoldable pub next : Place → ℕ → Place
+next p b =
+    record {
+      at = cond (eqb b 0) (p .at + p .len + 1) (p .at);
+      len = cond (eqb b 0) 0 (p .len + 1);
+      kept = cond (eqb b 0) (p .kept) (keep (p .len) b (p .kept));
+    }
+
+-- after a piece
+unfoldable pub after : Place → List ℕ → Place
+after p [] = p
+after p (b ∷ bs) = after (next p b) bs
+
+-- the lines that a piece adds
+unfoldable pub adds : Place → List ℕ → List ℕ
+adds p [] = []
+adds p (b ∷ bs) = cond (eqb b 0) (lineRun (p .at) (p .len) (p .kept)) [] ++ adds (next p b) bs
+
+-- the lines that pieces add, one after another
+unfoldable pub addsAll : Place → List (List ℕ) → List ℕ
+addsAll p [] = []
+addsAll p (piece ∷ pieces) = adds p piece ++ addsAll (after p piece) pieces
+
+-- ---- what the code holds of it
+
+abbrev pub placeOf : Stream → List ℕ → Place
+placeOf s kept = record { at = s .at; len = s .len; kept = kept }
+
+-- before the first piece, with the heading in the output
+unfoldable pub started : Stream
+started = record { at = 0; len = 0; filled = length heading }
+
+-- after a piece
+unfoldable pub fed : Stream → List ℕ → List ℕ → Stream
+fed s kept piece =
+    record {
+      at = after (placeOf s kept) piece .at;
+      len = after (placeOf s kept) piece .len;
+      filled = s .filled + length (adds (placeOf s kept) piece);
+    }
