@@ -1,36 +1,22 @@
 //! Measures libdonglora.a beside straightforward Rust that does the same.
 //!
-//! Both are called through one trait, so that all code around them is the same. Their rounds
-//! alternate, so that a change of the clock meets both.
-//!
-//! On many processors the speed of a short loop depends on where its code happens to stand, and
-//! any change of the program moves it. So the program is built several times, each time with all
-//! code moved on by SHIFT bytes, and the table has the mean of them.
+//! Both are called through one trait, so that all code around them is the same. How they are measured
+//! is said in table.rs.
 //!
 //! Usage: codec              measures, and prints a line of numbers for each row
 //!        codec PROGRAM...   runs these builds and prints the table
 
 mod frames;
 mod plain;
+mod table;
 
-use frames::{realistic, rx, size, Rng};
+use frames::{encoding, realistic, rx, size, Rng};
 use plain::{BODY_MAX, BODY_MIN, ENCODED_MAX};
-use std::arch::global_asm;
-use std::env;
 use std::hint::black_box;
-use std::process::{self, Command, Stdio};
-use std::time::Instant;
-
-global_asm!(
-    ".pushsection .text.shift, \"ax\"",
-    ".globl code_shift",
-    "code_shift:",
-    concat!(".skip ", env!("SHIFT")),
-    ".popsection",
-);
+use std::process;
+use table::{Row, Unit, ROUND, SEED};
 
 extern "C" {
-    fn code_shift();
     fn donglora_crc16(src: *const u8, src_len: usize) -> u16;
     fn donglora_cobs_encode(
         src: *const u8,
@@ -47,11 +33,6 @@ extern "C" {
         written: *mut usize,
     ) -> u8;
 }
-
-const SEED: u64 = 0x444F_4E47_4C4F_5241;
-/// How many bytes one round works through, about.
-const ROUND: usize = 64 * 1024;
-const ROUNDS: usize = 301;
 
 /// What is measured. Answers are how many bytes were written, or the number of the refusal.
 trait Codec {
@@ -152,13 +133,7 @@ fn repeat(len: usize, mut make: impl FnMut() -> Vec<u8>) -> Vec<Vec<u8>> {
 }
 
 fn encodings(bodies: &[Vec<u8>]) -> Vec<Vec<u8>> {
-    let encode = |body: &Vec<u8>| {
-        let mut dst = vec![0; ENCODED_MAX];
-        let n = Plain::encode(body, &mut dst).expect("a body can be encoded");
-        dst.truncate(n);
-        dst
-    };
-    bodies.iter().map(encode).collect()
+    bodies.iter().map(|body| encoding(body)).collect()
 }
 
 /// Whether both codecs give the same for these bodies, byte by byte.
@@ -173,69 +148,6 @@ fn agree(bodies: &[Vec<u8>]) -> bool {
             && a[..body.len()] == body[..]
             && Proved::crc16(body) == Plain::crc16(body)
     })
-}
-
-fn median(mut values: Vec<f64>) -> f64 {
-    values.sort_by(f64::total_cmp);
-    values[values.len() / 2]
-}
-
-fn seconds<T>(work: impl FnOnce() -> T) -> f64 {
-    let start = Instant::now();
-    black_box(work());
-    start.elapsed().as_secs_f64()
-}
-
-/// What is known of a row. The times are seconds for a byte; by_round is the ratio of the speeds.
-struct Row {
-    name: String,
-    target: Option<f64>,
-    proved: f64,
-    plain: f64,
-    by_round: f64,
-}
-
-impl Row {
-    fn measure<T>(
-        name: &str,
-        target: Option<f64>,
-        bytes: usize,
-        proved: impl Fn() -> T,
-        plain: impl Fn() -> T,
-    ) -> Row {
-        let rounds: Vec<(f64, f64)> = (0..ROUNDS)
-            .map(|_| (seconds(&proved), seconds(&plain)))
-            .collect();
-        Row {
-            name: name.to_string(),
-            target,
-            proved: median(rounds.iter().map(|round| round.0).collect()) / bytes as f64,
-            plain: median(rounds.iter().map(|round| round.1).collect()) / bytes as f64,
-            by_round: median(rounds.iter().map(|round| round.1 / round.0).collect()),
-        }
-    }
-
-    /// The line that one build prints for another to read.
-    fn line(&self) -> String {
-        let target = self.target.unwrap_or(0.0);
-        let (proved, plain, by_round) = (self.proved, self.plain, self.by_round);
-        format!("{}\t{target}\t{proved}\t{plain}\t{by_round}", self.name)
-    }
-
-    fn read(line: &str) -> Option<Row> {
-        let (name, numbers) = line.split_once('\t')?;
-        let numbers: Result<Vec<f64>, _> = numbers.split('\t').map(str::parse).collect();
-        match numbers.ok()?[..] {
-            [target, proved, plain, by_round] => Some(Row {
-                name: name.to_string(),
-                target: Some(target).filter(|&target| target > 0.0),
-                proved,
-                plain,
-                by_round,
-            }),
-            _ => None,
-        }
-    }
 }
 
 /// The two rows of some bodies: encode and decode.
@@ -300,58 +212,11 @@ fn measure() -> Vec<Row> {
     all
 }
 
-/// Runs one build and reads its rows.
-fn run(program: &str) -> Vec<Row> {
-    let output = Command::new(program).stderr(Stdio::inherit()).output();
-    let output = output.expect("a build of the benchmark can be run");
-    if !output.status.success() {
-        process::exit(1);
-    }
-    let text = String::from_utf8_lossy(&output.stdout);
-    let read = |line| Row::read(line).expect("a build of the benchmark prints rows");
-    text.lines().map(read).collect()
-}
-
-/// Prints the table of several builds.
-fn print_table(programs: &[String]) {
-    let builds: Vec<Vec<Row>> = programs.iter().map(|program| run(program)).collect();
-    let count = builds.len() as f64;
-    println!("Proved: libdonglora.a. Plain: straightforward Rust. {count} places of the code.");
-    println!(
-        "MB/s: 10^6 bytes of the source a second, by the median of {ROUNDS} rounds of 64 KiB."
-    );
-    println!("Ratio: proved to plain, of these. By round: the median of the ratios of all rounds.");
-    println!();
-    println!("                      proved    plain                      by round");
-    println!("                        MB/s     MB/s   ratio    mean  lowest  highest  target");
-    for (index, row) in builds[0].iter().enumerate() {
-        let same: Vec<&Row> = builds.iter().map(|rows| &rows[index]).collect();
-        let proved = same.iter().map(|row| row.proved).sum::<f64>() / count;
-        let plain = same.iter().map(|row| row.plain).sum::<f64>() / count;
-        let ratios: Vec<f64> = same.iter().map(|row| row.by_round).collect();
-        let mean = ratios.iter().product::<f64>().powf(1.0 / count);
-        let lowest = ratios.iter().copied().fold(f64::INFINITY, f64::min);
-        let highest = ratios.iter().copied().fold(0.0, f64::max);
-        let note = match row.target {
-            None => String::new(),
-            Some(target) if mean < target => format!("{target:8.2}  below target"),
-            Some(target) => format!("{target:8.2}"),
-        };
-        let (a, b, ratio) = (1e-6 / proved, 1e-6 / plain, plain / proved);
-        print!("{:19} {a:8.1} {b:8.1} {ratio:7.2} ", row.name);
-        println!("{mean:7.2} {lowest:7.2} {highest:8.2}{note}");
-    }
-}
-
 fn main() {
-    // Used, so that the linker keeps it.
-    black_box(code_shift as unsafe extern "C" fn());
-    let programs: Vec<String> = env::args().skip(1).collect();
-    if programs.is_empty() {
-        for row in measure() {
-            println!("{}", row.line());
-        }
-    } else {
-        print_table(&programs);
-    }
+    let unit = Unit {
+        name: "MB/s",
+        meaning: "MB/s: 10^6 bytes of the source a second",
+        of: |time| 1e-6 / time,
+    };
+    table::run_or_print(&unit, measure);
 }

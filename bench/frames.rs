@@ -24,12 +24,21 @@ impl Rng {
     }
 }
 
-fn body(kind: u8, tag: u16, payload: &[u8]) -> Vec<u8> {
+/// A body of this type, tag and payload.
+pub fn body(kind: u8, tag: u16, payload: &[u8]) -> Vec<u8> {
     let mut body = vec![kind];
     body.extend(tag.to_le_bytes());
     body.extend(payload);
     body.extend(plain::crc16(&body).to_le_bytes());
     body
+}
+
+/// The run of a body: its frame without the zero.
+pub fn encoding(body: &[u8]) -> Vec<u8> {
+    let mut dst = vec![0; plain::ENCODED_MAX];
+    let n = plain::encode(body, &mut dst).expect("a body can be encoded");
+    dst.truncate(n);
+    dst
 }
 
 /// An RX event with a packet of random bytes.

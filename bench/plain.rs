@@ -7,9 +7,9 @@
 const FULL: usize = 254;
 
 // The numbers and limits of donglora.h; the shortest body is type, tag and check value.
-const SHORT: u8 = 4;
+pub const SHORT: u8 = 4;
 const STUFF: u8 = 5;
-const LENGTH: u8 = 6;
+pub const LENGTH: u8 = 6;
 pub const BODY_MIN: usize = 5;
 pub const BODY_MAX: usize = 280;
 pub const ENCODED_MAX: usize = 282;

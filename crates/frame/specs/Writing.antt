@@ -24,9 +24,10 @@ buildAnswer payload room =
 -- writing the frame of the body b into so much room
 unfoldable pub frameAnswer : List ℕ → ℕ → Written
 frameAnswer b room =
-    cond (ltb bodyMax (length b)) (W.Refused R.Length)
+    cond (ltb (length b) overhead) (W.Refused R.Length)
+    (cond (ltb bodyMax (length b)) (W.Refused R.Length)
     (cond (ltb room (worst (length b) + 1)) (W.Refused R.Short)
-    (W.Done (length (frame b))))
+    (W.Done (length (frame b)))))
 
 -- The destination d after an answer, where `bs` was to be written: from its start on, with the bytes past that as they were. A refusal leaves all of it.
 abbrev pub left : Written → List ℕ → List ℕ → List ℕ

@@ -82,6 +82,9 @@ pub fn encode(body: &[u8], dst: &mut [u8]) -> Written
     ensures { λ r. ⌜ now (dst .exit) ≡ frameLeft (now (body .entry)) (now (dst .entry)) ⌝ }
 {
     let n = body.len();
+    if n < OVERHEAD {
+        return Written::Refused(Refusal::Length);
+    }
     if BODY_MAX < n {
         return Written::Refused(Refusal::Length);
     }

@@ -4,7 +4,7 @@ use mathlib.Core.Path.{_≡_, sym, ap, _∙_}
 use mathlib.Core.List.{List}
 use Prim.Native.Nat.{ℕ, _+_}
 use native.Mathlib.Omega.{arith}
-use borrow.Author.Tests.{lt-ltb}
+use borrow.Author.Tests.{lt-ltb, le-ltb}
 use lib.ListN.{length, take}
 use lib.Seq.{length-take-le}
 use Rattle.cobs.specs.Answers.{bodyMax}
@@ -21,8 +21,9 @@ returns c =
     let s = c .before .before .before in
     let b = body (s .args .kind) (s .args .tag) (s .args .payload .now) in
     let n = length-body (s .args .kind) (s .args .tag) (s .args .payload .now) in
+    let d = le-ltb (length b) overhead (omega arith) in
     let e = lt-ltb bodyMax (length b) (omega (arith, c .if1 .taken)) in
-    (simp e, simp e)
+    (simp (d, e), simp (d, e))
 
 slice-aggregate-build-into : tie.Need-slice-aggregate-build-into
 slice-aggregate-build-into c = search needs
