@@ -126,7 +126,7 @@ readAnswer kind name p =
     (cond (atLeast (answerForm kind name p) (length p)) (D.Answer (answerOf kind name p)) (D.Refused R.Form))
     (D.Refused R.Type)
 
--- the type of an answer, the command that it answers where it is an OK, and the payload with its bytes
+-- the type of an answer
 abbrev pub answerKind : Answer → ℕ
 answerKind A.Ok = OK
 answerKind (A.Info m) = OK
@@ -135,6 +135,7 @@ answerKind (A.Err c) = ERR
 answerKind (A.Rx m) = RX
 answerKind (A.TxDone r t) = TX-DONE
 
+-- the command that it is written with: of an OK one that has such an OK; for the others any would do
 abbrev pub answerName : Answer → Name
 answerName A.Ok = N.Ping
 answerName (A.Info m) = N.GetInfo
@@ -167,6 +168,7 @@ Names (A.Err c) n = Unit {0}
 Names (A.Rx m) n = Unit {0}
 Names (A.TxDone r t) n = Unit {0}
 
+-- its payload, with its bytes of variable length
 unfoldable pub answerBytes : Answer → List ℕ → List ℕ
 answerBytes A.Ok bytes = bytes
 answerBytes (A.Info m) bytes = infoBytes m bytes

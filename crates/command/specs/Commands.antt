@@ -69,7 +69,7 @@ readCommand kind p =
     (cond (exactly (commandForm kind p) (length p)) (A.Command (commandOf kind p)) (A.Refused R.Form))
     (A.Refused R.Type)
 
--- the type and the payload of a command, with its bytes
+-- the type of a command
 abbrev pub commandKind : Command → ℕ
 commandKind C.Ping = PING
 commandKind C.GetInfo = GET-INFO
@@ -78,6 +78,7 @@ commandKind (C.Tx f) = TX
 commandKind C.RxStart = RX-START
 commandKind C.RxStop = RX-STOP
 
+-- its payload, with its bytes of variable length
 unfoldable pub commandBytes : Command → List ℕ → List ℕ
 commandBytes C.Ping bytes = bytes
 commandBytes C.GetInfo bytes = bytes

@@ -24,7 +24,7 @@ has (K.Answers name) kind = isAnswer kind
 has K.Rx kind = eqb kind RX
 has K.TxDone kind = eqb kind TX-DONE
 
--- FORM: the form of a payload of some type
+-- FORM: the form of a payload of some type. That of an RX or a TX_DONE does not depend on the command that is named.
 unfoldable pub formOf : Kinds → ℕ → List ℕ → Form
 formOf K.Commands kind p = commandForm kind p
 formOf (K.Answers name) kind p = answerForm kind name p
