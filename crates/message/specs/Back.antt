@@ -1,4 +1,4 @@
--- What it is for a message to come back as it was written, as a frame and as a body.
+-- What it is for a message to come back as it was written, as a frame and as a body: demand 2.
 -- Assumes nothing.
 use Prim.Native.Nat.{ℕ}
 use mathlib.Core.Path.{_≡_}

@@ -255,7 +255,7 @@ fn receive_on(s: Score) -> Score {
 }
 
 // The examples, in order.
-pub fn all(s: Score) -> Score {
+pub(crate) fn all(s: Score) -> Score {
     let s = ping(s);
     let s = get_info(s);
     let s = configure(s);

@@ -18,21 +18,21 @@ use numbers::TAKEN;
 use rx::Rx;
 
 // The longest frame: 282 bytes and the zero.
-pub const FRAME_MAX: usize = 283;
+pub(crate) const FRAME_MAX: usize = 283;
 // P 6.3: the device did as it was told, and its radio is the asker's.
 const APPLIED: u8 = 0;
 
 const MINE: u8 = 1;
 
 // How many frames there were, how many were P's bytes, and how many were read back.
-pub struct Score {
-    pub frames: u32,
-    pub same: u32,
-    pub back: u32,
+pub(crate) struct Score {
+    pub(crate) frames: u32,
+    pub(crate) same: u32,
+    pub(crate) back: u32,
 }
 
 // A command, from the host to the device.
-pub fn command(
+pub(crate) fn command(
     s: Score,
     label: &[u8],
     tag: u16,
@@ -56,13 +56,20 @@ pub fn command(
 }
 
 // SET_CONFIG with LoRa's parameters.
-pub fn set_config(s: Score, label: &[u8], tag: u16, m: Lora, body: &[u8], wire: &[u8]) -> Score {
+pub(crate) fn set_config(
+    s: Score,
+    label: &[u8],
+    tag: u16,
+    m: Lora,
+    body: &[u8],
+    wire: &[u8],
+) -> Score {
     let c = Command::SetConfig(Modulation::Lora(m));
     command(s, label, tag, c, b"", body, wire)
 }
 
 // TX of a packet.
-pub fn tx(
+pub(crate) fn tx(
     s: Score,
     label: &[u8],
     tag: u16,
@@ -75,7 +82,7 @@ pub fn tx(
 }
 
 // An answer, from the device to the host; an OK is that to the command of this name.
-pub fn answer(
+pub(crate) fn answer(
     s: Score,
     label: &[u8],
     tag: u16,
@@ -100,12 +107,19 @@ pub fn answer(
 }
 
 // OK to PING, TX, RX_START or RX_STOP.
-pub fn ok(s: Score, label: &[u8], tag: u16, name: Name, body: &[u8], wire: &[u8]) -> Score {
+pub(crate) fn ok(s: Score, label: &[u8], tag: u16, name: Name, body: &[u8], wire: &[u8]) -> Score {
     answer(s, label, tag, Answer::Ok, name, b"", body, wire)
 }
 
 // OK to SET_CONFIG: applied, and mine, with LoRa's parameters.
-pub fn configured(s: Score, label: &[u8], tag: u16, m: Lora, body: &[u8], wire: &[u8]) -> Score {
+pub(crate) fn configured(
+    s: Score,
+    label: &[u8],
+    tag: u16,
+    m: Lora,
+    body: &[u8],
+    wire: &[u8],
+) -> Score {
     let a = Answer::Configured(Configured {
         result: APPLIED,
         owner: MINE,
@@ -115,7 +129,7 @@ pub fn configured(s: Score, label: &[u8], tag: u16, m: Lora, body: &[u8], wire: 
 }
 
 // ERR, read as an answer to TX: the name matters for an OK alone.
-pub fn err(s: Score, label: &[u8], tag: u16, code: u16, body: &[u8], wire: &[u8]) -> Score {
+pub(crate) fn err(s: Score, label: &[u8], tag: u16, code: u16, body: &[u8], wire: &[u8]) -> Score {
     answer(
         s,
         label,
@@ -129,7 +143,7 @@ pub fn err(s: Score, label: &[u8], tag: u16, code: u16, body: &[u8], wire: &[u8]
 }
 
 // RX of a packet. Its tag is zero.
-pub fn rx(s: Score, label: &[u8], m: Rx, packet: &[u8], body: &[u8], wire: &[u8]) -> Score {
+pub(crate) fn rx(s: Score, label: &[u8], m: Rx, packet: &[u8], body: &[u8], wire: &[u8]) -> Score {
     answer(
         s,
         label,
@@ -143,7 +157,7 @@ pub fn rx(s: Score, label: &[u8], m: Rx, packet: &[u8], body: &[u8], wire: &[u8]
 }
 
 // TX_DONE.
-pub fn tx_done(
+pub(crate) fn tx_done(
     s: Score,
     label: &[u8],
     tag: u16,
@@ -158,7 +172,7 @@ pub fn tx_done(
 
 // A frame that is no right command: it is written from its type, tag and payload, and read back as
 // such. Reader and writer of commands refuse it with this number.
-pub fn wrong(
+pub(crate) fn wrong(
     s: Score,
     label: &[u8],
     tag: u16,
@@ -185,7 +199,7 @@ pub fn wrong(
 }
 
 // Fields that make no right command: the writer refuses them with this number.
-pub fn unwritten(label: &[u8], tag: u16, c: Command, bytes: &[u8], number: u8) {
+pub(crate) fn unwritten(label: &[u8], tag: u16, c: Command, bytes: &[u8], number: u8) {
     let mut memory = [0u8; FRAME_MAX];
     let w = message::write_command(c, tag, bytes, &mut memory);
     print_head(label, tag);
@@ -194,7 +208,7 @@ pub fn unwritten(label: &[u8], tag: u16, c: Command, bytes: &[u8], number: u8) {
 }
 
 // C.2.3's parameters, but for these.
-pub fn lora(freq_hz: u32, sf: u8, tx_power_dbm: i8) -> Lora {
+pub(crate) fn lora(freq_hz: u32, sf: u8, tx_power_dbm: i8) -> Lora {
     Lora {
         freq_hz,
         sf,
@@ -210,7 +224,7 @@ pub fn lora(freq_hz: u32, sf: u8, tx_power_dbm: i8) -> Lora {
 }
 
 // How many bytes were written: none where the writer refused.
-pub fn written(w: Written) -> usize {
+pub(crate) fn written(w: Written) -> usize {
     match w {
         Written::Done(n) => n,
         Written::Refused(_) => 0,
@@ -234,7 +248,7 @@ fn run(frame: &[u8]) -> &[u8] {
 }
 
 // Whether the device reads this command in a frame.
-pub fn command_back(c: Command, tag: u16, bytes: &[u8], frame: &[u8]) -> bool {
+pub(crate) fn command_back(c: Command, tag: u16, bytes: &[u8], frame: &[u8]) -> bool {
     let mut memory = [0u8; FRAME_MAX];
     let opened = message::receive(Kinds::Commands, run(frame), &mut memory);
     let Opened::Body { kind, tag: t, len } = opened else {
@@ -299,20 +313,20 @@ fn write_number(kind: u8, tag: u16, payload: &[u8]) -> u8 {
 }
 
 // The start of a line: the example with its message, and the tag.
-pub fn print_head(label: &[u8], tag: u16) {
+pub(crate) fn print_head(label: &[u8], tag: u16) {
     io::write_all(1, label);
     text::print_tag(tag);
 }
 
 // Whether the frame, the body and what was read back are the same.
-pub fn print_verdicts(is_frame: bool, is_body: bool, is_back: bool) {
+pub(crate) fn print_verdicts(is_frame: bool, is_body: bool, is_back: bool) {
     print_verdict(b" frame", is_frame);
     print_verdict(b", body", is_body);
     print_verdict(b", read back", is_back);
 }
 
 // Whether something is the same.
-pub fn print_verdict(what: &[u8], is_same: bool) {
+pub(crate) fn print_verdict(what: &[u8], is_same: bool) {
     io::write_all(1, what);
     if is_same {
         io::write_all(1, b" same");
@@ -334,7 +348,7 @@ fn print_refusal(what: &[u8], got: u8, number: u8) -> bool {
 }
 
 // One frame more.
-pub fn counted(s: Score, is_same: bool, is_back: bool) -> Score {
+pub(crate) fn counted(s: Score, is_same: bool, is_back: bool) -> Score {
     Score {
         frames: std::num::wrapping_add_u32(s.frames, 1),
         same: std::num::wrapping_add_u32(s.same, is_same as u32),
@@ -343,7 +357,7 @@ pub fn counted(s: Score, is_same: bool, is_back: bool) -> Score {
 }
 
 // The last line.
-pub fn print_score(s: Score) {
+pub(crate) fn print_score(s: Score) {
     io::print_decimal(1, s.frames as u64);
     io::write_all(1, b" frames, ");
     io::print_decimal(1, s.same as u64);

@@ -113,7 +113,7 @@ fn loopback(s: Score) -> Score {
 }
 
 // The examples, in order.
-pub fn all(s: Score) -> Score {
+pub(crate) fn all(s: Score) -> Score {
     let s = matched(s);
     let s = mismatched(s);
     loopback(s)

@@ -107,7 +107,7 @@ fn print_ends(frame: &[u8]) {
 }
 
 // The examples, in order.
-pub fn all(s: Score) -> Score {
+pub(crate) fn all(s: Score) -> Score {
     let s = no_zero(s);
     let s = many_zeros(s);
     long_run(s)

@@ -268,7 +268,7 @@ fn fault(s: Score) -> Score {
 }
 
 // The examples, in order.
-pub fn all(s: Score) -> Score {
+pub(crate) fn all(s: Score) -> Score {
     let s = unconfigured(s);
     let s = empty_packet(s);
     let s = reserved_flag(s);

@@ -69,7 +69,7 @@ fn radio_fault(s: Score) -> Score {
 }
 
 // The examples, in order.
-pub fn all(s: Score) -> Score {
+pub(crate) fn all(s: Score) -> Score {
     let s = corrupt(s);
     let s = overrun(s);
     let s = malformed(s);

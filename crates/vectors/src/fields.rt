@@ -11,7 +11,7 @@ use rx::Rx;
 const CONFIGURED_SIZE: usize = 2;
 
 // Whether two commands are the same.
-pub fn same_command(a: Command, b: Command) -> bool {
+pub(crate) fn same_command(a: Command, b: Command) -> bool {
     match a {
         Command::Ping => if let Command::Ping = b { true } else { false },
         Command::GetInfo => if let Command::GetInfo = b {
@@ -45,7 +45,7 @@ fn is_tx(c: Command, flags: u8) -> bool {
 }
 
 // Whether the bytes of variable length in a command's payload are these.
-pub fn command_has(c: Command, payload: &[u8], bytes: &[u8]) -> bool {
+pub(crate) fn command_has(c: Command, payload: &[u8], bytes: &[u8]) -> bool {
     match c {
         Command::SetConfig(_) => check::same(modulation::sync_word(payload), bytes),
         Command::Tx { flags: _ } => check::same(command::packet(payload), bytes),
@@ -57,7 +57,7 @@ pub fn command_has(c: Command, payload: &[u8], bytes: &[u8]) -> bool {
 }
 
 // Whether two answers are the same.
-pub fn same_answer(a: Answer, b: Answer) -> bool {
+pub(crate) fn same_answer(a: Answer, b: Answer) -> bool {
     match a {
         Answer::Ok => if let Answer::Ok = b { true } else { false },
         Answer::Info(m) => is_info(b, m),
@@ -110,7 +110,7 @@ fn is_tx_done(a: Answer, result: u8, airtime_us: u32) -> bool {
 }
 
 // Whether the bytes of variable length in an answer's payload are these.
-pub fn answer_has(a: Answer, payload: &[u8], bytes: &[u8]) -> bool {
+pub(crate) fn answer_has(a: Answer, payload: &[u8], bytes: &[u8]) -> bool {
     match a {
         Answer::Ok => check::same(payload, bytes),
         Answer::Info(m) => has_uids(payload, m.mcu_uid_len as usize, bytes),

@@ -143,7 +143,7 @@ fn is_back(batch: &[u8]) -> bool {
 }
 
 // The examples, in order.
-pub fn all(s: Score) -> Score {
+pub(crate) fn all(s: Score) -> Score {
     let s = pipelined(s);
     let s = taken(s);
     let s = finished(s);

@@ -261,7 +261,7 @@ fn retried(s: Score) -> Score {
 }
 
 // The examples, in order.
-pub fn all(s: Score) -> Score {
+pub(crate) fn all(s: Score) -> Score {
     let s = receiving(s);
     let s = reconfigured(s);
     let s = pending(s);

@@ -6,7 +6,7 @@ const TEXT: usize = 1024;
 const PLACES: usize = 3;
 
 // Whether P's text shows these bytes.
-pub fn shows(text: &[u8], bytes: &[u8]) -> bool {
+pub(crate) fn shows(text: &[u8], bytes: &[u8]) -> bool {
     let mut memory = [0u8; TEXT];
     let n = put(bytes, &mut memory);
     let made = buffer::part(&memory, 0, n);
@@ -14,14 +14,14 @@ pub fn shows(text: &[u8], bytes: &[u8]) -> bool {
 }
 
 // Prints bytes, each after a blank.
-pub fn print(bytes: &[u8]) {
+pub(crate) fn print(bytes: &[u8]) {
     let mut memory = [0u8; TEXT];
     let n = put(bytes, &mut memory);
     io::write_all(1, buffer::part(&memory, 0, n));
 }
 
 // Prints a tag after a blank, its four digits in a row as P has them.
-pub fn print_tag(tag: u16) {
+pub(crate) fn print_tag(tag: u16) {
     let low = (tag % 256) as u8;
     let high = (tag / 256) as u8;
     io::write_all(
