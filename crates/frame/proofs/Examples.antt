@@ -10,6 +10,7 @@ use Rattle.cobs.specs.Decoding.{hasZero, whole, broken, parts, groups, joined, 
 use Rattle.scalar.specs.Scalars.{le, number}
 use Rattle.frame.specs.Body.{covered, body, frame}
 use Rattle.frame.specs.Reading.{openBody, openAnswer}
+use Rattle.frame.specs.Stream.{runs}
 use Rattle.frame.specs.declared.Opened.the-variants as O
 
 -- P C.2.1: PING 0001, its body and its frame
@@ -54,3 +55,8 @@ too-long = refl
 pub check : openAnswer (0x03 ∷ 0x01 ∷ 0x01 ∷ 0x03 ∷ 0x9D ∷ 0xC9 ∷ []) 6 ≡ O.Refused R.Check
 unfolding openAnswer openBody broken hasZero whole decoded groups parts joined number crcOf crcFrom byte bits bit
 check = refl
+
+-- two runs, of which the second is empty, and a byte that no zero ends
+pub two-runs : runs [] (3 ∷ 1 ∷ 0 ∷ 0 ∷ 5 ∷ []) ≡ (3 ∷ 1 ∷ []) ∷ [] ∷ []
+unfolding runs
+two-runs = refl

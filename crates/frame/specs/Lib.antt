@@ -1,3 +1,4 @@
 pub mod Body
 pub mod Writing
 pub mod Reading
+pub mod Stream

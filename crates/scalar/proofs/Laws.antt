@@ -12,6 +12,7 @@ use lib.IntN.{ℤ, pos, negsuc}
 use lib.ListN.{length, getD, take, drop, length-drop}
 use lib.Seq.{take-add, drop-drop, drop-cons, length-take-le}
 use lib.Signed.{mag}
+use Rattle.scalar.specs.Bytes.{Bytes}
 use Rattle.scalar.specs.Scalars.{le, number, unsigned, signed, column, get}
 
 -- ---- bytes
@@ -31,24 +32,12 @@ number-le (suc n) x h =
     omega arith
 
 -- and what was read is written back
-pub le-number : (bs : List ℕ) → ((i : ℕ) → i < length bs → getD bs i 0 < 256) → le (length bs) (number bs) ≡ bs
+pub le-number : (bs : List ℕ) → Bytes bs → le (length bs) (number bs) ≡ bs
 unfolding le number
-le-number [] f = refl
-le-number (b ∷ bs) f =
-    let h : b < 256 = f 0 (omega arith) in
-    ap₂
-    _∷_
-    (omega arith)
-    (ap (le (length bs)) (omega arith) ∙ le-number bs (λ i k. f (suc i) (omega arith)))
-
-pub number-below : (bs : List ℕ) → ((i : ℕ) → i < length bs → getD bs i 0 < 256) → number bs < 256 ^ length bs
-unfolding number
-number-below [] f = omega arith
-number-below (b ∷ bs) f =
-    let h : b < 256 = f 0 (omega arith) in
-    let k = pow-succ' 256 (length bs) in
-    let e = number-below bs (λ i j. f (suc i) (omega arith)) in
-    omega arith
+le-number [] p = refl
+le-number (b ∷ bs) p =
+    let h = p .0 in
+    ap₂ _∷_ (omega arith) (ap (le (length bs)) (omega arith) ∙ le-number bs (p .1))
 
 -- one piece after another
 pub number-append : (a b : List ℕ) → number (a ++ b) ≡ number a + 256 ^ length a * number b
