@@ -1,22 +1,25 @@
--- What is written of a modulation is read back, how long it is, and what a form tells. The columns compute, and each field is read back by the laws of numbers.
+-- What is written of a modulation is read back, how long it is, what a form tells, and what stands in bytes. The columns compute, and each field is read back
+-- by the laws of numbers.
 -- Assumes nothing.
-use mathlib.Core.Path.{_≡_, refl, ap, subst, _∙_}
-use mathlib.Core.Bool.{true, cond}
+use mathlib.Core.Path.{_≡_, refl, sym, ap, subst, _∙_}
+use mathlib.Core.Bool.{Bool, true, false, cond}
 use mathlib.Core.List.{List, _++_}
 use Prim.Native.Nat.{ℕ, _+_, _≤_}
 use native.Mathlib.Omega.{arith}
-use borrow.Author.Tests.{le-ltb, eqb-true}
-use lib.Dec.{ltb}
+use borrow.Author.Tests.{le-ltb, eq-eqb, eqb-true}
+use lib.Dec.{ltb, eqb}
 use lib.ListN.{length, take, drop}
 use lib.Seq.{take-all}
 use Rattle.buffer.specs.Lay.{lay}
-use Rattle.scalar.specs.Scalars.{le, number, i8}
-use Rattle.scalar.proofs.Laws.{signed-back, number-le}
+use Rattle.scalar.specs.Bytes.{Bytes}
+use Rattle.scalar.specs.Scalars.{le, number, i8, get}
+use Rattle.scalar.proofs.Bytes.{bytes-drop, get-small}
+use Rattle.scalar.proofs.Laws.{signed-back, mag-signed, number-le}
 use Rattle.form.specs.Forms.{exactly}
 use Rattle.form.proofs.Laws.{exactly-size, passed}
 use Rattle.modulation.specs.Lora.{loraOf, loraBytes}
 use Rattle.modulation.specs.Fsk.{fskOf, fskBytes}
-use Rattle.modulation.specs.Modulations.{configForm, configOf, configBytes, syncWord}
+use Rattle.modulation.specs.Modulations.{LORA, modulation-id, paramsOf, configForm, configOf, configBytes, syncWord}
 use Rattle.modulation.specs.Ranges.{LoraIn, FskIn, ModulationIn}
 use Rattle.modulation.specs.declared.Lora.{Lora}
 use Rattle.modulation.specs.declared.Fsk.{Fsk}
@@ -110,6 +113,16 @@ word-length m r word e =
     go (M.Lora k) {n} l h = omega (arith, eqb-true 16 n h)
     go (M.Fsk k) {n} l h = omega (arith, eqb-true (17 + k .«sync_word_len») n (passed (ltb 8 (k .«sync_word_len»)) _ n h .1))
 
+-- and one that has it is of that form
+pub word-form : (m : Modulation) → ModulationIn m → (word : List ℕ) → length word ≡ wordLen m → wordLen m ≤ 8
+    → exactly (configForm (configBytes m word)) (length (configBytes m word)) ≡ true
+word-form m r word e h =
+    subst (λ (f : Form). exactly f (length (configBytes m word)) ≡ true) (sym (config-form-back m r word)) (go m (length-config m word) e h)
+  where
+    go : (k : Modulation) {n : ℕ} → n ≡ fixed k + length word → length word ≡ wordLen k → wordLen k ≤ 8 → exactly (formOf k) n ≡ true
+    go (M.Lora k) {n} l w h = eq-eqb 16 n (omega arith)
+    go (M.Fsk k) {n} l w h = rw (le-ltb 8 (k .«sync_word_len») h) (eq-eqb (17 + k .«sync_word_len») n (omega arith))
+
 pub word-back : (m : Modulation) → ModulationIn m → (word : List ℕ) → exactly (configForm (configBytes m word)) (length (configBytes m word)) ≡ true
     → syncWord (configBytes m word) ≡ word
 unfolding syncWord configBytes loraBytes fskBytes lay le number
@@ -135,3 +148,41 @@ form-bounds p n e = subst Bounds e (go (row p))
 -- the longest payload
 pub config-small : (p : List ℕ) → exactly (configForm p) (length p) ≡ true → length p ≤ 25
 config-small p e = form-bounds p (length p) (exactly-size (configForm p) (length p) e) .1
+
+-- ---- what stands in bytes is a value of its type
+
+lora-in : (p : List ℕ) → Bytes p → LoraIn (loraOf p)
+unfolding loraOf
+lora-in p b =
+    record {
+      «freq_hz» = get-small 0 4 p b;
+      sf = get-small 4 1 p b;
+      bw = get-small 5 1 p b;
+      cr = get-small 6 1 p b;
+      «preamble_len» = get-small 7 2 p b;
+      «sync_word» = get-small 9 2 p b;
+      «tx_power_dbm» = mag-signed i8 _ (get-small 11 1 p b);
+      «header_mode» = get-small 12 1 p b;
+      «payload_crc» = get-small 13 1 p b;
+      «iq_invert» = get-small 14 1 p b;
+    }
+
+fsk-in : (p : List ℕ) → Bytes p → FskIn (fskOf p)
+unfolding fskOf
+fsk-in p b =
+    record {
+      «freq_hz» = get-small 0 4 p b;
+      «bitrate_bps» = get-small 4 4 p b;
+      «freq_dev_hz» = get-small 8 4 p b;
+      «rx_bw» = get-small 12 1 p b;
+      «preamble_len» = get-small 13 2 p b;
+      «sync_word_len» = get-small 15 1 p b;
+    }
+
+pub config-in : (p : List ℕ) → Bytes p → ModulationIn (configOf p)
+unfolding configOf
+config-in p b = go (eqb (get modulation-id p) LORA)
+  where
+    go : (lora : Bool) → ModulationIn (cond lora (M.Lora (loraOf (paramsOf p))) (M.Fsk (fskOf (paramsOf p))))
+    go true = lora-in (paramsOf p) (bytes-drop 1 p b)
+    go false = fsk-in (paramsOf p) (bytes-drop 1 p b)
