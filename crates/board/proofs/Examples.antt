@@ -1,0 +1,16 @@
+-- The board's definitions, computed on the papers' examples.
+-- Assumes nothing.
+use mathlib.Core.Path.{_≡_, refl}
+use mathlib.Core.Bool.{true, false}
+use Rattle.board.specs.Board.{sx1262, bitmap}
+use Rattle.board.specs.Ldro.{slow}
+
+-- P C.2.2
+pub bitmaps : (bitmap (sx1262 .bits) ≡ 0x10003) × (bitmap (sx1262 .sfs) ≡ 0x1FE0) × (bitmap (sx1262 .bws) ≡ 0x03FF)
+unfolding bitmap sx1262
+bitmaps = (refl, refl, refl)
+
+-- 01's sheet: SF11 at 125 kHz on, SF10 off; SF12 at 500 kHz off
+pub symbols : (slow 11 7 ≡ true) × (slow 10 7 ≡ false) × (slow 12 9 ≡ false)
+unfolding slow
+symbols = (refl, refl, refl)

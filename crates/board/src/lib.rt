@@ -1,0 +1,1 @@
+// The board's profile, the parameters that it takes, and LDRO: definitions for the device.
