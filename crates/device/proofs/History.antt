@@ -1,0 +1,233 @@
+-- The demands over every list of events from power-up: what is written is read back, demand 3, 01's last line on events, and the drop count.
+-- The idea: a history is good where its tally is that of its device (Keeping), each number is a value of its type (Ranges), and its bytes are the wires of messages
+-- that are read back (Wires); one event more keeps that.
+-- Assumes nothing.
+use mathlib.Core.Path.{_≡_, refl, sym, ap, ap₂, _∙_, subst}
+use mathlib.Core.Bool.{Bool, true, false}
+use mathlib.Core.List.{List, [], _∷_, _++_, map, append-nil}
+use Prim.Native.Nat.{ℕ, zero, suc, _+_, _≤_, _<_, zero-le}
+use native.Mathlib.Omega.{arith}
+use native.Mathlib.Nat.{le-refl, le-trans, le-of-suc-le-suc, not-suc-le-zero}
+use lib.ListN.{length, take, getD, length-append, length-map}
+use lib.Dec.{leb}
+use borrow.Author.Tests.{leb-true, leb-false}
+use Rattle.board.specs.Board.{Board}
+use Rattle.device.specs.State.{Radio, free, listening, onAir, orphan, configuring, State, Event, Input, held, tagsOf, open#}
+use Rattle.device.specs.Messages.{Message, wires}
+use Rattle.device.specs.Events.{Out, step, reply}
+use Rattle.device.specs.Tally.{Entry, entry, waits, open?, Tally, tallied, dones, reportedTags, newlyReported}
+use Rattle.device.specs.Lost.{losing}
+use Rattle.device.specs.Ranges.{EventIn, InputsIn, BoardIn}
+use Rattle.device.specs.Demands.{Demand2Wire, Demand3, InTime, DropCount, dropCounts, History, onward, after, history, seen, Closed, was-reported, was-dropped, closed, opens, outcomes, placeOf}
+use Rattle.device.proofs.Laws.{atRadio, inQueue, reportedOf, dones-append}
+use Rattle.device.proofs.Wires.{AllSendable, sendable-append, wires-append, read-all}
+use Rattle.device.proofs.Back.{all-back}
+use Rattle.device.proofs.Ranges as R
+use Rattle.device.proofs.Losing.{Losing, losing-at-power-up, losingOut, losing-keeps, reports}
+use Rattle.device.proofs.Keeping.{tallyOf, tallyOut, openOf, Shaped, is-free, Keeps, keeps, passed}
+
+-- ---- good histories
+
+record Good (h : History) : Type 0 where
+  before : List Closed
+  agrees : h .tally ≡ tallyOf before (h .device)
+  shaped : Shaped (h .device)
+  ranges : R.StateIn (h .device)
+  sent : List Message
+  sendable : AllSendable sent
+  bytes : h .bytes ≡ wires sent
+  wrote : dones (map seen sent) ≡ reportedOf before
+  losing : Losing (h .device) (h .lost)
+
+reported-append : (xs ys : List Closed) → reportedOf (xs ++ ys) ≡ reportedOf xs ++ reportedOf ys
+reported-append [] ys = refl
+reported-append (was-reported t ∷ xs) ys = ap (λ ts. t ∷ ts) (reported-append xs ys)
+reported-append (was-dropped t ∷ xs) ys = reported-append xs ys
+
+-- the tally reads the messages off the bytes
+read-off : (e : Event) (o : Out) (t : Tally) → AllSendable (o .written) → tallied e (reply o) t ≡ tallyOut e o t
+unfolding tallied
+read-off e o t s = rw (read-all (o .written) s)
+
+module _ (b : Board) (board : BoardIn b) where
+  -- what one event more does
+  module _ {h : History} (g : Good h) (i : Input) (l : EventIn (i .event)) where
+    kept : Keeps (g .before) (h .device) (i .event) (step b (h .device) i)
+    kept = keeps b (g .before) (h .device) i (g .shaped)
+
+    ranged : R.Kept (step b (h .device) i)
+    ranged = R.keeps b board (h .device) (g .ranges) i l
+
+    tally-next : onward b h i .tally ≡ tallyOf (g .before ++ kept .more) (step b (h .device) i .next)
+    unfolding onward
+    tally-next = read-off (i .event) (step b (h .device) i) (h .tally) (ranged .sendable) ∙ ap (tallyOut (i .event) (step b (h .device) i)) (g .agrees) ∙ kept .agrees
+
+    reports-next : newlyReported (h .tally .txs) (onward b h i .tally .txs) ≡ reportedOf (kept .more)
+    reports-next = ap₂ (λ (t u : Tally). newlyReported (t .txs) (u .txs)) (g .agrees) tally-next ∙ kept .reports
+
+    lost-next : onward b h i .lost ≡ losingOut (i .event) (step b (h .device) i) (tallyOf (g .before) (h .device)) (tallyOf (g .before ++ kept .more) (step b (h .device) i .next)) (h .lost)
+    unfolding onward losing
+    lost-next = rw (read-all (step b (h .device) i .written) (ranged .sendable)) (ap₂ (λ (t u : Tally). losingOut (i .event) (step b (h .device) i) t u (h .lost)) (g .agrees) tally-next)
+
+    good-next : Good (onward b h i)
+    unfolding onward
+    good-next =
+        record {
+          before = g .before ++ kept .more;
+          agrees = tally-next;
+          shaped = kept .shape;
+          ranges = ranged .next;
+          sent = g .sent ++ step b (h .device) i .written;
+          sendable = sendable-append (g .sent) (step b (h .device) i .written) (g .sendable) (ranged .sendable);
+          bytes = rw (wires-append, g .bytes);
+          wrote = rw (dones-append, reported-append, g .wrote, kept .writes);
+          losing = subst (Losing (step b (h .device) i .next)) (sym lost-next) (losing-keeps b (g .before) (g .before ++ kept .more) (h .device) i (h .lost) (g .losing));
+        }
+
+  good-after : (is : List Input) → InputsIn is → {h : History} → Good h → Good (after b h is)
+  unfolding after
+  good-after [] l g = g
+  good-after (i ∷ is) l g = good-after is (l .1) (good-next g i (l .0))
+
+  good : (is : List Input) → InputsIn is → Good (history b is)
+  unfolding history wires
+  good is l =
+      good-after is l record {
+        before = [];
+        agrees = refl;
+        shaped = is-free;
+        ranges = R.at-power-up;
+        sent = [];
+        sendable = tt;
+        bytes = refl;
+        wrote = refl;
+        losing = losing-at-power-up;
+      }
+
+  -- ---- demand 2, the bytes
+
+  pub demand2-wire : (is : List Input) → InputsIn is → (i : Input) → EventIn (i .event) → Demand2Wire b is i
+  demand2-wire is l i e =
+      let ms = step b (history b is .device) i .written in
+      let s = ranged (good is l) i e .sendable in
+      record { split = read-all ms s; back = all-back ms s }
+
+  -- ---- demand 3
+
+  -- the reported ones of a good tally
+  none-open : (ts us : List ℕ) → reportedTags (atRadio ts ++ inQueue us) ≡ []
+  none-open [] [] = refl
+  none-open [] (u ∷ us) = none-open [] us
+  none-open (t ∷ ts) us = none-open ts us
+
+  closed-first : (c : List Closed) (l : List Entry) → reportedTags (map closed c ++ l) ≡ reportedOf c ++ reportedTags l
+  closed-first [] l = refl
+  closed-first (was-reported t ∷ c) l = ap (λ ts. t ∷ ts) (closed-first c l)
+  closed-first (was-dropped t ∷ c) l = closed-first c l
+
+  at-most-one : (r : Radio) → length (atRadio (held r)) ≤ 1
+  at-most-one free = zero-le
+  at-most-one (listening t) = le-refl 1
+  at-most-one (onAir t) = le-refl 1
+  at-most-one orphan = zero-le
+  at-most-one (configuring c) = zero-le
+
+  length-open : (s : State) → length (openOf s) ≡ open# (s .air)
+  length-open s = simp (length-append, length-map)
+
+  pub demand3 : (is : List Input) → InputsIn is → Demand3 b is
+  demand3 is l =
+      let g = good is l in
+      let h = history b is in
+      record {
+        before = g .before;
+        places = ap (λ (t : Tally). t .txs) (g .agrees);
+        one = at-most-one (h .device .air .radio);
+        few = rw (length-open (h .device)) (g .ranges .air .few);
+        each = λ i e. ap dones (read-all (step b (h .device) i .written) (ranged g i e .sendable)) ∙ kept g i e .writes ∙ sym (reports-next g i e);
+        whole = rw (g .bytes, read-all (g .sent) (g .sendable), g .agrees, closed-first, none-open, append-nil) (g .wrote);
+        most = λ i e. ranged g i e .most;
+        most-but-packets = λ i e w. ranged g i e .others (rw (sym (read-all (step b (h .device) i .written) (ranged g i e .sendable))) w);
+      }
+
+  -- ---- 01's last line on events
+
+  abbrev closed# : {h : History} → Good h → ℕ
+  closed# g = length (g .before)
+
+  -- one event more: no number is lost, no closed one opens, and while any is open each busy, sent or fault taken closes one
+  module _ {h : History} (g : Good h) (i : Input) (l : EventIn (i .event)) where
+    more : closed# g + length (kept g i l .more) ≡ closed# (good-next g i l)
+    unfolding good-next
+    more = sym (length-append (g .before) (kept g i l .more))
+
+    no-loss : closed# g + open# (h .device .air) ≤ closed# (good-next g i l) + open# (onward b h i .device .air)
+    unfolding onward
+    no-loss = omega (arith, more, kept g i l .grows)
+
+    gained : 0 < open# (onward b h i .device .air) → closed# g + passed (i .event) (step b (h .device) i .number) ≤ closed# (good-next g i l)
+    unfolding onward
+    gained o = omega (arith, more, kept g i l .pace o)
+
+  stays : (is : List Input) (l : InputsIn is) {h : History} (g : Good h) → closed# g ≤ closed# (good-after is l g)
+  unfolding good-after after
+  stays [] l g = le-refl _
+  stays (i ∷ is) l g = le-trans (omega (arith, more g i (l .0))) (stays is (l .1) (good-next g i (l .0)))
+
+  -- the TX with number n is closed once as many have ended as are open up to it
+  late : (is : List Input) (l : InputsIn is) {h : History} (g : Good h) (n : ℕ) → n < closed# g + open# (h .device .air) → suc n ≤ closed# g + outcomes b h is
+      → n < closed# (good-after is l g)
+  unfolding good-after after outcomes
+  late [] l g n h k = omega arith
+  late (i ∷ is) l {h} g n m k = go (leb (open# (onward b h i .device .air)) 0) refl (late is (l .1) (good-next g i (l .0)) n)
+    where
+      go : (v : Bool) → leb (open# (onward b h i .device .air)) 0 ≡ v
+          → (n < closed# (good-next g i (l .0)) + open# (onward b h i .device .air) → suc n ≤ closed# (good-next g i (l .0)) + outcomes b (onward b h i) is
+          → n < closed# (good-after is (l .1) (good-next g i (l .0))))
+          → n < closed# (good-after is (l .1) (good-next g i (l .0)))
+      go true z ih = omega (arith, no-loss g i (l .0), leb-true (open# (onward b h i .device .air)) 0 z, stays is (l .1) (good-next g i (l .0)))
+      go false z ih = ih (omega (arith, no-loss g i (l .0))) (omega (arith, gained g i (l .0) (leb-false (open# (onward b h i .device .air)) 0 z)))
+
+  -- the same of the tally: how many are open before number n, and its place
+  queue-opens : (n : ℕ) (ts : List ℕ) → n ≤ length ts → opens (take n (inQueue ts)) ≡ n
+  unfolding opens
+  queue-opens zero ts h = refl
+  queue-opens (suc n) [] h = absurd (not-suc-le-zero h)
+  queue-opens (suc n) (t ∷ ts) h = omega (arith, queue-opens n ts (le-of-suc-le-suc h))
+
+  radio-opens : (n : ℕ) (ts us : List ℕ) → n ≤ length (ts ++ us) → opens (take n (atRadio ts ++ inQueue us)) ≡ n
+  unfolding opens
+  radio-opens n [] us h = queue-opens n us h
+  radio-opens zero (t ∷ ts) us h = refl
+  radio-opens (suc n) (t ∷ ts) us h = omega (arith, radio-opens n ts us (le-of-suc-le-suc h))
+
+  open-before : (n : ℕ) (c : List Closed) (ts us : List ℕ) → n ≤ length c + length (ts ++ us) → n ≤ length c + opens (take n (map closed c ++ (atRadio ts ++ inQueue us)))
+  unfolding opens
+  open-before n [] ts us h = omega (arith, radio-opens n ts us (omega arith))
+  open-before zero (x ∷ c) ts us h = zero-le
+  open-before (suc n) (was-reported t ∷ c) ts us h = omega (arith, open-before n c ts us (omega arith))
+  open-before (suc n) (was-dropped t ∷ c) ts us h = omega (arith, open-before n c ts us (omega arith))
+
+  closed-at : (c : List Closed) (l : List Entry) (n : ℕ) (d : Entry) → n < length c → open? (placeOf (getD (map closed c ++ l) n d)) ≡ false
+  closed-at [] l n d h = absurd (not-suc-le-zero h)
+  closed-at (was-reported t ∷ c) l zero d h = refl
+  closed-at (was-dropped t ∷ c) l zero d h = refl
+  closed-at (x ∷ c) l (suc n) d h = closed-at c l n d (le-of-suc-le-suc h)
+
+  pub in-time : (is : List Input) → InputsIn is → InTime b is
+  in-time is l n m js r k =
+      let g = good is l in
+      let e = good-after js r g in
+      let s = history b is .device in
+      let a : length (history b is .tally .txs) ≡ closed# g + open# (s .air) =
+      ap (λ (t : Tally). length (t .txs)) (g .agrees) ∙ rw (length-append, length-map, length-open s) in
+      let o : n ≤ closed# g + opens (take n (history b is .tally .txs)) =
+      rw (g .agrees) (open-before n (g .before) (held (s .air .radio)) (tagsOf (s .air .waiting)) (omega arith)) in
+      rw (e .agrees) (closed-at (e .before) _ n (entry 0 waits) (late js r g n (omega arith) (omega arith)))
+
+  -- ---- the drop count
+
+  pub drop-count : (is : List Input) → InputsIn is → DropCount b is
+  drop-count is l i e =
+      let g = good is l in
+      ap dropCounts (read-all (step b (history b is .device) i .written) (ranged g i e .sendable)) ∙ reports b (history b is .device) i (history b is .lost) (g .losing)

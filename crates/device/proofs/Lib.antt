@@ -1,0 +1,9 @@
+pub mod Laws
+pub mod Witnesses
+pub mod Keeping
+pub mod Losing
+pub mod Refusals
+pub mod Wires
+pub mod Back
+pub mod Ranges
+pub mod History

@@ -1,0 +1,256 @@
+-- The demands as statements about the device: 00, demands 1 to 3; 01's last line under "What each event does"; the drop count of P 6.9.
+-- proofs/ has each of them proved, under the name that stands above it here.
+-- Assumes nothing.
+use Prim.Native.Nat.{ℕ, suc, _+_, _≤_, _<_, min}
+use mathlib.Core.Path.{_≡_}
+use mathlib.Core.Bool.{Bool, true, false, cond, not, _&&_}
+use mathlib.Core.List.{List, [], _∷_, _++_, map}
+use lib.Dec.{ltb, eqb}
+use lib.ListN.{length, take, getD}
+use Rattle.numbers.specs.Numbers.{TAKEN, ROOM, STALL, PLACE}
+use Rattle.kind.specs.Kinds.{RX}
+use Rattle.rx.specs.Rx.{rxOf}
+use Rattle.buffer.specs.Lay.{lay}
+use Rattle.kind.specs.declared.Name.{Name}
+use Rattle.cobs.specs.Encoding.{encoded}
+use Rattle.cobs.specs.Answers.{encodedMax}
+use Rattle.frame.specs.Body.{body}
+use Rattle.frame.specs.declared.Opened.the-variants as O
+use Rattle.frame.specs.declared.Written.the-variants as W
+use Rattle.answer.specs.Answers.{answerKind, answerName, Names, readAnswer, answerTail}
+use Rattle.answer.specs.declared.Answered.the-variants as D
+use Rattle.message.specs.Reading.{receiveAnswer}
+use Rattle.message.specs.Writing.{writeAnswer, writeLeft}
+use Rattle.message.specs.declared.Kinds.the-variants as K
+use Rattle.board.specs.Board.{Board}
+use Rattle.device.specs.State.{Radio, free, listening, onAir, orphan, configuring, State, link, withLink, powerUp, held, tagsOf, free?, runs?, stalled}
+use Rattle.device.specs.State.{Event, byte, tick, clear, busy, sent, configured, fault, packet, request, disconnect, Input, nothing}
+use Rattle.device.specs.Messages.{Message, payload, wire, err, EFRAME, Frame, frame, frames}
+use Rattle.device.specs.Frames.{damaged, received}
+use Rattle.device.specs.Events.{taken, refused, step, Reply, reply}
+use Rattle.device.specs.Tally.{Place, reported, dropped, withRadio, waits, Entry, entry, open?, Tally, noTally, ifTaken, tallied, wrote, dones, reportedTags, newlyReported}
+use Rattle.device.specs.Lost.{Lost, noneLost, losing}
+use Rattle.device.specs.Ranges.{EventIn, InputsIn}
+
+-- ---- demand 1, for every state
+
+abbrev pub listens? : Radio → Bool
+listens? free = false
+listens? (listening t) = true
+listens? (onAir t) = false
+listens? orphan = false
+listens? (configuring c) = false
+
+abbrev pub onAir? : Radio → Bool
+onAir? free = false
+onAir? (listening t) = false
+onAir? (onAir t) = true
+onAir? orphan = true
+onAir? (configuring c) = false
+
+-- whether a radio outcome fits: 01 "What each event does"; the other events are none
+abbrev pub fits : Event → State → Bool
+fits (byte n) s = true
+fits tick s = true
+fits clear s = listens? (s .air .radio)
+fits busy s = listens? (s .air .radio)
+fits (sent airtime) s = onAir? (s .air .radio)
+fits configured s = runs? (s .air .radio)
+fits fault s = true
+fits (packet p) s = s .inbox .receiving && free? (s .air .radio)
+fits request s = true
+fits disconnect s = true
+
+abbrev pub byte? : Event → Bool
+byte? (byte n) = true
+byte? tick = false
+byte? clear = false
+byte? busy = false
+byte? (sent airtime) = false
+byte? configured = false
+byte? fault = false
+byte? (packet p) = false
+byte? request = false
+byte? disconnect = false
+
+-- the three causes of refusal, the first that applies
+abbrev pub cause : State → Input → ℕ
+cause s i =
+    cond (ltb (i .room) 283) ROOM
+    (cond (byte? (i .event) && stalled (s .air)) STALL
+    (cond (not (fits (i .event) s)) PLACE
+    TAKEN))
+
+-- demand1: the number is the cause's, and a refusal writes nothing and changes nothing
+pub record Demand1 (b : Board) (s : State) (i : Input) : Type 0 where
+  pub number : step b s i .number ≡ cause s i
+  pub refusal : (n : ℕ) → cause s i ≡ suc n → step b s i ≡ refused (suc n) s
+
+-- ---- demand 2, damaged frames, for every state
+
+-- demand2: a run that fails step 1 draws ERR(EFRAME) with tag 0, and nothing changes but session, liveness count and run
+abbrev pub Demand2 : Board → State → ℕ → Type 0
+Demand2 b s room =
+    ltb room 283 ≡ false → stalled (s .air) ≡ false → 0 < length (s .link .run) → received (s .link .run) ≡ damaged
+    → step b s (record { room = room; event = byte 0 }) ≡ taken (withLink (link true 0 []) s) (err EFRAME 0 ∷ []) nothing
+
+-- ---- histories: every list of events from power-up, refused ones included
+
+-- what a list of events has come to: the device, the tally, the packets lost, and all bytes written, in their order
+pub record History : Type 0 where
+  pub device : State
+  pub tally : Tally
+  pub lost : Lost
+  pub bytes : List ℕ
+
+-- the answer to one event more
+abbrev pub answer : Board → History → Input → Reply
+answer b h i = reply (step b (h .device) i)
+
+unfoldable pub onward : Board → History → Input → History
+onward b h i =
+    let t = tallied (i .event) (answer b h i) (h .tally) in
+    record {
+      device = step b (h .device) i .next;
+      tally = t;
+      lost = losing (i .event) (answer b h i) (h .tally) t (h .lost);
+      bytes = h .bytes ++ answer b h i .bytes;
+    }
+
+unfoldable pub after : Board → History → List Input → History
+after b h [] = h
+after b h (i ∷ is) = after b (onward b h i) is
+
+abbrev pub begins : History
+begins = record { device = powerUp; tally = noTally; lost = noneLost; bytes = [] }
+
+unfoldable pub history : Board → List Input → History
+history b is = after b begins is
+
+-- ---- demand 2, the bytes: what an event writes is read back as the messages written
+
+abbrev pub seen : Message → Frame
+seen m = frame (answerKind (m .answer)) (m .tag) (payload m)
+
+-- The writer of answers (crate message) takes it, wherever an event's output is, and writes just these bytes; and the host's reader, with any command named that
+-- the answer may have, takes the frame, and has the same answer with the same bytes.
+pub record Back (m : Message) : Type 0 where
+  pub written : (room : ℕ) → 283 ≤ room → writeAnswer (K.Answers (answerName (m .answer))) (answerKind (m .answer)) (m .tag) (payload m) room ≡ W.Done (length (wire m))
+  pub left : (d : List ℕ) → 283 ≤ length d → writeLeft (K.Answers (answerName (m .answer))) (answerKind (m .answer)) (m .tag) (payload m) d ≡ lay 0 (wire m) d
+  pub taken : (name : Name) → Names (m .answer) name → receiveAnswer (K.Answers name) (encoded (body (answerKind (m .answer)) (m .tag) (payload m))) encodedMax
+      ≡ O.Body (answerKind (m .answer)) (m .tag) (length (payload m))
+  pub same : (name : Name) → Names (m .answer) name → readAnswer (answerKind (m .answer)) name (payload m) ≡ D.Answer (m .answer)
+  pub bytes : (name : Name) → Names (m .answer) name → answerTail (answerKind (m .answer)) name (payload m) ≡ m .bytes
+
+abbrev pub AllBack : List Message → Type 0
+AllBack [] = Unit {0}
+AllBack (m ∷ ms) = Back m × AllBack ms
+
+-- demand2-wire: splitting what was written at its zeros and opening each run gives the messages, and each is read as the same message
+pub record Demand2Wire (b : Board) (is : List Input) (i : Input) : Type 0 where
+  pub split : frames (answer b (history b is) i .bytes) ≡ map seen (step b (history b is .device) i .written)
+  pub back : AllBack (step b (history b is .device) i .written)
+
+-- ---- demand 3
+
+-- a TX that is reported, or dropped
+pub data Closed : Type 0 where
+  was-reported : ℕ → Closed
+  was-dropped : ℕ → Closed
+
+abbrev pub closed : Closed → Entry
+closed (was-reported t) = entry t reported
+closed (was-dropped t) = entry t dropped
+
+-- the device's open TX, as entries
+abbrev pub withRadioOf : State → List Entry
+withRadioOf s = map (λ t. entry t withRadio) (held (s .air .radio))
+
+abbrev pub waitingOf : State → List Entry
+waitingOf s = map (λ t. entry t waits) (tagsOf (s .air .waiting))
+
+-- demand3: after every list of events, and at every event that follows it
+pub record Demand3 (b : Board) (is : List Input) : Type 0 where
+  -- in number order: first those reported or dropped, then the one with the radio, if any, then those that wait; these two are the device's own, by place, order
+  -- and tag
+  pub before : List Closed
+  pub places : history b is .tally .txs ≡ map closed before ++ (withRadioOf (history b is .device) ++ waitingOf (history b is .device))
+  pub one : length (withRadioOf (history b is .device)) ≤ 1
+  pub few : length (withRadioOf (history b is .device) ++ waitingOf (history b is .device)) ≤ 16
+  -- the TX_DONEs that one event more writes are those of the TX that the tally reports at it: one each, with its tag, in number order
+  pub each : (i : Input) → EventIn (i .event)
+      → dones (frames (answer b (history b is) i .bytes)) ≡ newlyReported (history b is .tally .txs) (onward b (history b is) i .tally .txs)
+  -- in all that was written, each reported TX has one TX_DONE, and they come in number order
+  pub whole : dones (frames (history b is .bytes)) ≡ reportedTags (history b is .tally .txs)
+  -- one event more writes at most 283 bytes, and at most 201 if it delivers no packet
+  pub most : (i : Input) → EventIn (i .event) → length (answer b (history b is) i .bytes) ≤ 283
+  pub most-but-packets : (i : Input) → EventIn (i .event) → wrote RX (frames (answer b (history b is) i .bytes)) ≡ false
+      → length (answer b (history b is) i .bytes) ≤ 201
+
+-- ---- 01's last line on events
+
+-- how many of some entries are open
+unfoldable pub opens : List Entry → ℕ
+opens [] = 0
+opens (entry t p ∷ xs) = cond (open? p) 1 0 + opens xs
+
+abbrev pub outcome? : Event → Bool
+outcome? (byte n) = false
+outcome? tick = false
+outcome? clear = false
+outcome? busy = true
+outcome? (sent airtime) = true
+outcome? configured = false
+outcome? fault = true
+outcome? (packet p) = false
+outcome? request = false
+outcome? disconnect = false
+
+-- how many busy, sent or fault of a list are taken
+unfoldable pub outcomes : Board → History → List Input → ℕ
+outcomes b h [] = 0
+outcomes b h (i ∷ is) = cond (outcome? (i .event)) (ifTaken (answer b h i .number) 1 0) 0 + outcomes b (onward b h i) is
+
+abbrev pub placeOf : Entry → Place
+placeOf (entry t p) = p
+
+-- the place of the TX with number n
+abbrev pub placeAt : ℕ → History → Place
+placeAt n h = placeOf (getD (h .tally .txs) n (entry 0 waits))
+
+-- in-time: a TX with k open before it is open no more once k + 1 have been taken: it is reported, or its session has ended and it is dropped
+abbrev pub InTime : Board → List Input → Type 0
+InTime b is =
+    (n : ℕ) → n < length (history b is .tally .txs) → (js : List Input) → InputsIn js
+    → suc (opens (take n (history b is .tally .txs))) ≤ outcomes b (history b is) js
+    → open? (placeAt n (after b (history b is) js)) ≡ false
+
+-- ---- the drop count
+
+-- the drop counts of the RX among some frames
+unfoldable pub dropCounts : List Frame → List ℕ
+dropCounts [] = []
+dropCounts (frame k t p ∷ fs) = cond (eqb k RX) (rxOf p .«packets_dropped» ∷ []) [] ++ dropCounts fs
+
+abbrev pub request? : Event → Bool
+request? (byte n) = false
+request? tick = false
+request? clear = false
+request? busy = false
+request? (sent airtime) = false
+request? configured = false
+request? fault = false
+request? (packet p) = false
+request? request = true
+request? disconnect = false
+
+-- a request that is taken while packets are held
+abbrev pub due : Event → ℕ → Lost → Bool
+due e n l = request? e && ifTaken n (ltb 0 (l .here)) false
+
+-- drop-count: an RX comes when it is due, and reports as many packets as were lost, up to 65,535
+abbrev pub DropCount : Board → List Input → Type 0
+DropCount b is =
+    (i : Input) → EventIn (i .event)
+    → dropCounts (frames (answer b (history b is) i .bytes))
+    ≡ cond (due (i .event) (answer b (history b is) i .number) (history b is .lost)) (min (history b is .lost .lost) 65535 ∷ []) []

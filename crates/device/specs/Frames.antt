@@ -1,0 +1,94 @@
+-- 01 "A run of bytes becomes a frame": steps 1 to 7.
+-- Assumes nothing.
+use Prim.Native.Nat.{ℕ, zero, suc, _+_}
+use mathlib.Core.Bool.{Bool, true, false, cond, not, _&&_, _||_}
+use mathlib.Core.List.{List, [], _∷_}
+use mathlib.Core.Option.{Option, none, some}
+use lib.Dec.{leb, eqb}
+use lib.ListN.{length}
+use Rattle.scalar.specs.Scalars.{get}
+use Rattle.kind.specs.Kinds.{SET-CONFIG, TX, RX-START, RX-STOP, isCommand}
+use Rattle.modulation.specs.Lora.{loraSize}
+use Rattle.modulation.specs.Fsk.{fskSize, sync-word-len}
+use Rattle.modulation.specs.Modulations.{LORA, FSK, modulation-id, configOf, syncWord}
+use Rattle.command.specs.Commands.{flags, flagsSize, flagsMax, packetMax, packetOf}
+use Rattle.board.specs.Board.{Board, txMax}
+use Rattle.board.specs.Params.{paramsGood}
+use Rattle.device.specs.State.{Config, Setting, Tx, State, open#}
+use Rattle.device.specs.Messages.{Frame, frame, frameIn, EPARAM, ELENGTH, ENOTCONFIGURED, EMODULATION, EUNKNOWN-CMD, EBUSY}
+
+-- ---- step 1
+
+-- a run that isn't empty is damaged, or it has a type, which step 2 judges, a tag and a payload
+pub data Received : Type 0 where
+  damaged : Received
+  command : ℕ → ℕ → List ℕ → Received
+
+-- a tag of zero is damage too, for any type
+abbrev pub untagged : List Frame → Received
+untagged [] = damaged
+untagged (frame k zero p ∷ fs) = damaged
+untagged (frame k (suc t) p ∷ fs) = command k (suc t) p
+
+-- damage: a run over 282 bytes, bad stuffing, a body of a wrong length, a wrong check, a tag of zero
+unfoldable pub received : List ℕ → Received
+received run = untagged (frameIn run)
+
+-- ---- steps 2 to 7
+
+-- 3. UNCONFIGURED and TX, RX_START or RX_STOP
+abbrev pub unconfigured : Option Config → Bool
+unconfigured none = true
+unconfigured (some c) = false
+
+abbrev pub needsConfig : ℕ → Bool
+needsConfig kind = eqb kind TX || (eqb kind RX-START || eqb kind RX-STOP)
+
+-- 4. SET_CONFIG with a payload: modulation not 1 or 2
+abbrev pub strange : List ℕ → Bool
+strange [] = false
+strange (b ∷ bs) = not (eqb (get modulation-id (b ∷ bs)) LORA || eqb (get modulation-id (b ∷ bs)) FSK)
+
+-- 5. SET_CONFIG's sizes: the modulation and its parameters; FSK's are 16 and as many bytes as sync_word_len says
+abbrev pub configSized : List ℕ → Bool
+configSized [] = false
+configSized (b ∷ bs) =
+    cond (eqb (get modulation-id (b ∷ bs)) LORA) (eqb (length bs) loraSize)
+    (leb fskSize (length bs) && eqb (length bs) (fskSize + get sync-word-len bs))
+
+-- TX's: the flags, and a packet of 1 to 255 bytes
+abbrev pub txSized : List ℕ → Bool
+txSized p = leb (flagsSize + 1) (length p) && leb (length p) (flagsSize + packetMax)
+
+-- PING, GET_INFO, RX_START and RX_STOP have no payload
+abbrev pub sized : ℕ → List ℕ → Bool
+sized kind p =
+    cond (eqb kind SET-CONFIG) (configSized p)
+    (cond (eqb kind TX) (txSized p)
+    (eqb (length p) 0))
+
+-- 6. the parameters of a SET_CONFIG, the flags of a TX
+abbrev pub good : Board → ℕ → List ℕ → Bool
+good b kind p =
+    cond (eqb kind SET-CONFIG) (paramsGood b (configOf p))
+    (cond (eqb kind TX) (leb (get flags p) flagsMax)
+    true)
+
+-- Why a command draws an ERR: the first that applies of steps 2 to 7, or none.
+unfoldable pub objection : Board → State → ℕ → List ℕ → Option ℕ
+objection b s kind p =
+    cond (not (isCommand kind)) (some EUNKNOWN-CMD)
+    (cond (unconfigured (s .config) && needsConfig kind) (some ENOTCONFIGURED)
+    (cond (eqb kind SET-CONFIG && strange p) (some EMODULATION)
+    (cond (not (sized kind p)) (some ELENGTH)
+    (cond (not (good b kind p)) (some EPARAM)
+    (cond (eqb kind TX && leb txMax (open# (s .air))) (some EBUSY)
+    none)))))
+
+-- ---- what a command without objection brings
+
+abbrev pub settingOf : ℕ → List ℕ → Setting
+settingOf t p = record { tag = t; config = record { modulation = configOf p; word = syncWord p } }
+
+abbrev pub txOf : ℕ → List ℕ → Tx
+txOf t p = record { tag = t; flags = get flags p; packet = packetOf p }

@@ -1,0 +1,9 @@
+pub mod State
+pub mod Messages
+pub mod Frames
+pub mod Events
+pub mod Tally
+pub mod Lost
+pub mod Ranges
+pub mod Demands
+pub mod Scripts
