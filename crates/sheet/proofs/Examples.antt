@@ -1,0 +1,222 @@
+-- The device at 01's boundaries ("Sheet of known values", the line that is not starred) and on P's appendix C, by computing.
+-- A command is given to the device as the bytes of its frame, and what is written are bytes: `sends` and `gives` make them of types, tags and messages.
+-- Assumes nothing.
+use Prim.Native.Nat.{ℕ, zero, suc}
+use mathlib.Core.Path.{_≡_, refl}
+use mathlib.Core.Bool.{true, false}
+use mathlib.Core.List.{List, [], _∷_, _++_, map}
+use mathlib.Core.Option.{none, some}
+use lib.IntN.{pos, negsuc}
+use lib.ListN.{replicate, drop}
+use Rattle.numbers.specs.Numbers.{TAKEN, ROOM, STALL}
+use Rattle.buffer.specs.Lay.{lay}
+use Rattle.crc16.specs.Crc.{bit, bits, crcFrom, crcOf}
+use Rattle.crc16.specs.Crc as C
+use Rattle.cobs.specs.Encoding.{cut, encoded}
+use Rattle.cobs.specs.Encoding as E
+use Rattle.cobs.specs.Decoding.{hasZero, whole, broken, parts, groups, joined, decoded}
+use Rattle.scalar.specs.Scalars.{le, number, signed, unsigned}
+use Rattle.frame.specs.Body.{covered, body}
+use Rattle.frame.specs.Body as B
+use Rattle.frame.specs.Reading.{openBody, openAnswer}
+use Rattle.kind.specs.Kinds.{SET-CONFIG, TX, RX-START, isCommand}
+use Rattle.modulation.specs.Lora.{loraOf, loraBytes}
+use Rattle.modulation.specs.Modulations.{configOf, configBytes, syncWord}
+use Rattle.info.specs.Info.{infoHead, infoBytes}
+use Rattle.rx.specs.Rx.{rxBytes}
+use Rattle.answer.specs.Answers.{configuredBytes, txDoneBytes, answerBytes}
+use Rattle.board.specs.Board.{Board, among, bitmap, sx1262, infoOf}
+use Rattle.board.specs.Params.{loraGood, paramsGood}
+use Rattle.board.specs.Ldro.{slow, ldro}
+use Rattle.device.specs.State.{Packet, State, powerUp, link, inbox, deaf, open#}
+use Rattle.device.specs.State.{Event, byte, tick, clear, busy, sent, configured, fault, packet, request, disconnect, Input, Order, nothing, standby, configure, transmit}
+use Rattle.device.specs.Messages.{Message, ok, err, txDone, wire, wires, frameIn, EPARAM, ELENGTH, ENOTCONFIGURED, EMODULATION, EUNKNOWN-CMD, EBUSY, ERADIO, EFRAME, TRANSMITTED, CHANNEL-BUSY, CANCELLED}
+use Rattle.device.specs.Frames.{received, objection, settingOf}
+use Rattle.device.specs.Events.{listens, idle, refused, step, Reply}
+use Rattle.device.specs.Demands.{onward, after, history, answer}
+use Rattle.device.specs.Scripts.{lent, bytesIn, sends}
+
+-- what all of it computes with: `unfolding computes` opens these
+computes : Unit {0}
+unfolding lay bit bits C.byte crcFrom crcOf cut encoded E.wire hasZero whole broken parts groups joined decoded le number signed unsigned covered body B.frame openBody openAnswer isCommand loraOf loraBytes configOf configBytes syncWord infoHead infoBytes rxBytes configuredBytes txDoneBytes answerBytes among bitmap sx1262 infoOf loraGood paramsGood slow ldro wire wires frameIn received objection listens idle step onward after history
+computes = tt
+
+-- ---- events and answers
+
+-- after some events from power-up: the state, and the answer to one more
+abbrev stateAfter : List Input → State
+stateAfter is = history sx1262 is .device
+
+abbrev eventAfter : List Input → Event → Reply
+eventAfter is e = answer sx1262 (history sx1262 is) (lent e)
+
+-- the answer to the zero that ends a run, and to the one that ends a command
+abbrev runAfter : List Input → List ℕ → Reply
+runAfter is run = eventAfter (is ++ bytesIn run) (byte 0)
+
+abbrev commandAfter : List Input → ℕ → ℕ → List ℕ → Reply
+commandAfter is kind t p = runAfter is (encoded (body kind t p))
+
+-- the answer that has taken an event: messages and an order
+abbrev gives : List Message → Order → Reply
+gives ms o = record { number = TAKEN; bytes = wires ms; order = o }
+
+-- P C.2.3: the payload of its SET_CONFIG, with any SF and any byte of power; the events by which it configures the device
+abbrev params : ℕ → ℕ → List ℕ
+params sf power =
+    0x01 ∷ 0xA0 ∷ 0x27 ∷ 0xBE ∷ 0x33 ∷ sf ∷ 0x07 ∷ 0x00 ∷ 0x08 ∷ 0x00 ∷ 0x24 ∷ 0x14 ∷ power ∷ 0x00 ∷ 0x01 ∷ 0x00 ∷ []
+
+abbrev ready : List Input
+ready = sends SET-CONFIG 0x0003 (params 7 14) ++ (lent configured ∷ [])
+
+-- the payload of a TX with flags 0 and a packet of one byte (P C.3.1); with skip_cad
+abbrev letter : List ℕ
+letter = 0x00 ∷ 0x41 ∷ []
+
+abbrev urgent : List ℕ
+urgent = 0x01 ∷ 0x41 ∷ []
+
+-- ---- 01's boundaries
+
+-- with 16 open TX the 17th draws EBUSY
+abbrev txs : ℕ → List Input
+txs zero = []
+txs (suc n) = txs n ++ sends TX (suc n) letter
+
+pub sixteen : (open# (stateAfter (ready ++ txs 16) .air) ≡ 16)
+    × (commandAfter (ready ++ txs 15) TX 0x002B letter ≡ gives (ok 0x002B ∷ []) nothing)
+    × (commandAfter (ready ++ txs 16) TX 0x002B letter ≡ gives (err EBUSY 0x002B ∷ []) nothing)
+unfolding computes
+sixteen = (refl, refl, refl)
+
+-- the ring holds 64 packets, and the 65th loses one: n packets, told apart by their times from k on; the rest of them is P C.4.1's
+abbrev packets : ℕ → ℕ → List Packet
+packets k zero = []
+packets k (suc n) =
+    record { rssi = negsuc 819; snr = pos 80; freq-err = pos 0; time = k; crc-valid = true; bytes = 0xAA ∷ 0xBB ∷ [] } ∷ packets (suc k) n
+
+abbrev hears : List Packet → List Input
+hears ps = ready ++ (sends RX-START 0x000A [] ++ map (λ p. lent (packet p)) ps)
+
+pub ring : (stateAfter (hears (packets 0 64)) .inbox ≡ inbox true (packets 0 64) 0)
+    × (stateAfter (hears (packets 0 65)) .inbox ≡ inbox true (packets 1 64) 1)
+unfolding computes
+ring = (refl, refl)
+
+-- 999 ticks leave the session; with the 1000th the state is as at power-up, and the radio is put in standby
+pub ticks : (stateAfter (ready ++ replicate 999 (lent tick)) .link ≡ link true 999 [])
+    × (eventAfter (ready ++ replicate 999 (lent tick)) tick ≡ gives [] standby)
+    × (stateAfter (ready ++ replicate 1000 (lent tick)) ≡ powerUp)
+unfolding computes
+ticks = (refl, refl, refl)
+
+-- power 22 is taken and 23 is EPARAM; at the other end -9, which is the byte F7, and -10
+pub powers : (objection sx1262 powerUp SET-CONFIG (params 7 0x16) ≡ none)
+    × (objection sx1262 powerUp SET-CONFIG (params 7 0x17) ≡ some EPARAM)
+    × (objection sx1262 powerUp SET-CONFIG (params 7 0xF7) ≡ none)
+    × (objection sx1262 powerUp SET-CONFIG (params 7 0xF6) ≡ some EPARAM)
+unfolding computes
+powers = (refl, refl, refl, refl)
+
+-- an output of 282 bytes is ROOM, and 283 are enough
+pub room : ((b : Board) (s : State) (e : Event) → step b s (record { room = 282; event = e }) ≡ refused ROOM s)
+    × ((b : Board) → step b powerUp (record { room = 283; event = tick }) .number ≡ TAKEN)
+unfolding computes
+room = (λ b s e. refl, λ b. refl)
+
+-- ---- P's appendix C
+
+-- C.2.2: GET_INFO 0002
+pub info :
+    runAfter [] (0x03 ∷ 0x02 ∷ 0x02 ∷ 0x03 ∷ 0x9E ∷ 0xC4 ∷ []) .bytes
+    ≡ 0x03 ∷ 0x80 ∷ 0x02 ∷ 0x02 ∷ 0x01 ∷ 0x01 ∷ 0x02 ∷ 0x01 ∷ 0x02 ∷ 0x02 ∷ 0x02 ∷ 0x03 ∷ 0x02 ∷ 0x01 ∷ 0x01 ∷ 0x01
+    ∷ 0x01 ∷ 0x01 ∷ 0x06 ∷ 0xE0 ∷ 0x1F ∷ 0xFF ∷ 0x03 ∷ 0xFF ∷ 0x02 ∷ 0x40 ∷ 0x02 ∷ 0x10 ∷ 0x05 ∷ 0x80 ∷ 0xD1 ∷ 0xF0
+    ∷ 0x08 ∷ 0x0F ∷ 0x70 ∷ 0x38 ∷ 0x39 ∷ 0xF7 ∷ 0x16 ∷ 0x08 ∷ 0xDE ∷ 0xAD ∷ 0xBE ∷ 0xEF ∷ 0x01 ∷ 0x23 ∷ 0x45 ∷ 0x67
+    ∷ 0x03 ∷ 0xFA ∷ 0xA4 ∷ 0x00 ∷ []
+unfolding computes
+info = refl
+
+-- C.2.4 and C.2.5: a TX listens first, unless skip_cad is set
+pub starts : (commandAfter ready TX 0x0004 letter ≡ gives (ok 0x0004 ∷ []) (transmit (0x41 ∷ []) true))
+    × (eventAfter (ready ++ (sends TX 0x0004 letter ++ (lent clear ∷ []))) (sent 30976) ≡ gives (txDone TRANSMITTED 30976 0x0004 ∷ []) standby)
+    × (commandAfter ready TX 0x0005 urgent ≡ gives (ok 0x0005 ∷ []) (transmit (0x41 ∷ []) false))
+    × (eventAfter (ready ++ sends TX 0x0005 urgent) (sent 33792) ≡ gives (txDone TRANSMITTED 33792 0x0005 ∷ []) standby)
+unfolding computes
+starts = (refl, refl, refl, refl)
+
+-- C.4.1: the RX that goes out on request; a SET_CONFIG ends receiving and empties the ring
+pub receives :
+    (eventAfter (hears (packets 50000000 1)) request .bytes
+    ≡ 0x02 ∷ 0xC0 ∷ 0x01 ∷ 0x04 ∷ 0xCC ∷ 0xFC ∷ 0x50 ∷ 0x01 ∷ 0x01 ∷ 0x01 ∷ 0x01 ∷ 0x05 ∷ 0x80 ∷ 0xF0 ∷ 0xFA ∷ 0x02
+    ∷ 0x01 ∷ 0x01 ∷ 0x01 ∷ 0x02 ∷ 0x01 ∷ 0x01 ∷ 0x01 ∷ 0x05 ∷ 0xAA ∷ 0xBB ∷ 0x54 ∷ 0xC0 ∷ 0x00 ∷ [])
+    × (stateAfter (hears (packets 50000000 1) ++ sends SET-CONFIG 0x000B (params 9 14)) .inbox ≡ deaf)
+unfolding computes
+receives = (refl, refl)
+
+-- C.4.2: a SET_CONFIG with two open TX, none on air, cancels both at once; its OK comes when the radio is configured
+abbrev two : List Input
+two = ready ++ (sends TX 0x0014 letter ++ sends TX 0x0015 letter)
+
+pub cancels :
+    (commandAfter two SET-CONFIG 0x0016 (params 10 14) .bytes
+    ≡ (0x03 ∷ 0xC1 ∷ 0x14 ∷ 0x02 ∷ 0x02 ∷ 0x01 ∷ 0x01 ∷ 0x01 ∷ 0x03 ∷ 0x82 ∷ 0xCF ∷ 0x00 ∷ [])
+    ++ (0x03 ∷ 0xC1 ∷ 0x15 ∷ 0x02 ∷ 0x02 ∷ 0x01 ∷ 0x01 ∷ 0x01 ∷ 0x03 ∷ 0xE3 ∷ 0x77 ∷ 0x00 ∷ []))
+    × (eventAfter (two ++ sends SET-CONFIG 0x0016 (params 10 14)) configured .bytes
+    ≡ 0x03 ∷ 0x80 ∷ 0x16 ∷ 0x01 ∷ 0x09 ∷ 0x01 ∷ 0x01 ∷ 0xA0 ∷ 0x27 ∷ 0xBE ∷ 0x33 ∷ 0x0A ∷ 0x07 ∷ 0x02 ∷ 0x08 ∷ 0x04
+    ∷ 0x24 ∷ 0x14 ∷ 0x0E ∷ 0x02 ∷ 0x01 ∷ 0x03 ∷ 0x64 ∷ 0x32 ∷ 0x00 ∷ [])
+unfolding computes
+cancels = (refl, refl)
+
+-- with the first of them on air it waits, and bytes stall; when that one is sent, its TX_DONE comes first
+abbrev onAirFirst : List Input
+onAirFirst = two ++ (lent clear ∷ [])
+
+abbrev waiting : List Input
+waiting = onAirFirst ++ sends SET-CONFIG 0x0016 (params 10 14)
+
+pub waits : (commandAfter onAirFirst SET-CONFIG 0x0016 (params 10 14) ≡ gives [] nothing)
+    × (eventAfter waiting (byte 0x03) .number ≡ STALL)
+    × (eventAfter waiting (sent 30976)
+    ≡ gives (txDone TRANSMITTED 30976 0x0014 ∷ txDone CANCELLED 0 0x0015 ∷ []) (configure (settingOf 0x0016 (params 10 14) .config) false))
+unfolding computes
+waits = (refl, refl, refl)
+
+-- C.4.3: a TX after the session's end
+pub too-late : commandAfter (ready ++ replicate 1000 (lent tick)) TX 0x001F letter ≡ gives (err ENOTCONFIGURED 0x001F ∷ []) nothing
+unfolding computes
+too-late = refl
+
+-- C.5.2 and C.5.6 to C.5.9
+pub errors : (commandAfter ready TX 0x0029 (0x00 ∷ []) ≡ gives (err ELENGTH 0x0029 ∷ []) nothing)
+    × (commandAfter ready 0x10 0x003C (0xDE ∷ 0xAD ∷ []) ≡ gives (err EUNKNOWN-CMD 0x003C ∷ []) nothing)
+    × (commandAfter ready SET-CONFIG 0x0046 (0x01 ∷ replicate 10 0x00) ≡ gives (err ELENGTH 0x0046 ∷ []) nothing)
+    × (commandAfter ready SET-CONFIG 0x0047 (0x01 ∷ 0x80 ∷ 0x08 ∷ 0x08 ∷ 0x92 ∷ drop 5 (params 7 14)) ≡ gives (err EPARAM 0x0047 ∷ []) nothing)
+    × (commandAfter ready SET-CONFIG 0x0048 (0x04 ∷ replicate 13 0x00) ≡ gives (err EMODULATION 0x0048 ∷ []) nothing)
+unfolding computes
+errors = (refl, refl, refl, refl, refl)
+
+-- C.5.5: the channel is busy
+pub channel-busy : eventAfter (ready ++ sends TX 0x0032 letter) busy ≡ gives (txDone CHANNEL-BUSY 0 0x0032 ∷ []) standby
+unfolding computes
+channel-busy = refl
+
+-- C.5.10: a fault while the radio is configured
+pub radio-fault : eventAfter (sends SET-CONFIG 0x0049 (params 7 14)) fault ≡ gives (err ERADIO 0x0049 ∷ []) standby
+unfolding computes
+radio-fault = refl
+
+-- ---- 01's own rules
+
+-- a damaged run: EFRAME with tag 0
+pub damage : runAfter [] (0x05 ∷ []) ≡ gives (err EFRAME 0 ∷ []) nothing
+unfolding computes
+damage = refl
+
+-- an orphan: no order at the session's end, and nothing written when it has been sent
+abbrev alone : List Input
+alone = ready ++ sends TX 0x0005 urgent
+
+pub orphans : (eventAfter alone disconnect ≡ gives [] nothing)
+    × (eventAfter (alone ++ (lent disconnect ∷ [])) (sent 33792) ≡ gives [] standby)
+unfolding computes
+orphans = (refl, refl)

@@ -1,0 +1,1 @@
+// 01's sheet of known values, as one statement: specs/ and proofs/.
