@@ -13,6 +13,7 @@ use lib.ListN.{length, replicate, length-append}
 use Rattle.cobs.specs.Encoding.{worst}
 use Rattle.cobs.specs.Answers.{bodyMax, encodedMax}
 use Rattle.buffer.specs.Lay.{lay}
+use Rattle.scalar.specs.Bytes.{Each}
 use Rattle.scalar.specs.Scalars.{le, number}
 use Rattle.scalar.proofs.Laws.{number-le}
 use Rattle.frame.specs.Body.{overhead}
@@ -39,7 +40,7 @@ use Rattle.device.specs.State.{Config, Setting, Packet}
 use Rattle.device.specs.Messages.{Message, payload, wire, ok, okInfo, okConfigured, err, txDone, yes, rxValue, rx}
 use Rattle.device.specs.Events.{dropsMax}
 use Rattle.device.specs.Ranges.{PacketIn, BoardIn}
-use Rattle.device.specs.Demands.{Back, AllBack}
+use Rattle.device.specs.Demands.{Back}
 use Rattle.device.proofs.Wires.{Sendable, AllSendable, bodyOf, body-sized, run-short}
 
 -- ---- what can be sent is read back
@@ -78,7 +79,7 @@ module _ (m : Message) (s : Sendable m) where
         bytes = λ name may. reads name may d l .2;
       }
 
-pub all-back : (ms : List Message) → AllSendable ms → AllBack ms
+pub all-back : (ms : List Message) → AllSendable ms → Each Back ms
 all-back [] s = tt
 all-back (m ∷ ms) s = (back m (s .0), all-back ms (s .1))
 

@@ -11,20 +11,21 @@ use native.Mathlib.Nat.{le-refl, le-trans, le-of-suc-le-suc, not-suc-le-zero}
 use lib.ListN.{length, take, getD, length-append, length-map}
 use lib.Dec.{leb}
 use borrow.Author.Tests.{leb-true, leb-false}
+use Rattle.scalar.specs.Bytes.{Each}
 use Rattle.board.specs.Board.{Board}
-use Rattle.device.specs.State.{Radio, free, listening, onAir, orphan, configuring, State, Event, Input, held, tagsOf, open#}
+use Rattle.device.specs.State.{Radio, free, listening, onAir, orphan, configuring, Event, Input, held, tagsOf, open#}
 use Rattle.device.specs.Messages.{Message, wires}
 use Rattle.device.specs.Events.{Out, step, reply}
 use Rattle.device.specs.Tally.{Entry, entry, waits, open?, Tally, tallied, dones, reportedTags, newlyReported}
 use Rattle.device.specs.Lost.{losing}
-use Rattle.device.specs.Ranges.{EventIn, InputsIn, BoardIn}
+use Rattle.device.specs.Ranges.{InputIn, BoardIn}
 use Rattle.device.specs.Demands.{Demand2Wire, Demand3, InTime, DropCount, dropCounts, History, onward, after, history, seen, Closed, was-reported, was-dropped, closed, opens, outcomes, placeOf}
 use Rattle.device.proofs.Laws.{atRadio, inQueue, reportedOf, dones-append}
 use Rattle.device.proofs.Wires.{AllSendable, sendable-append, wires-append, read-all}
 use Rattle.device.proofs.Back.{all-back}
 use Rattle.device.proofs.Ranges as R
 use Rattle.device.proofs.Losing.{Losing, losing-at-power-up, losingOut, losing-keeps, reports}
-use Rattle.device.proofs.Keeping.{tallyOf, tallyOut, openOf, Shaped, is-free, Keeps, keeps, passed}
+use Rattle.device.proofs.Keeping.{length-open, tallyOf, tallyOut, Shaped, is-free, Keeps, keeps, passed}
 
 -- ---- good histories
 
@@ -51,7 +52,7 @@ read-off e o t s = rw (read-all (o .written) s)
 
 module _ (b : Board) (board : BoardIn b) where
   -- what one event more does
-  module _ {h : History} (g : Good h) (i : Input) (l : EventIn (i .event)) where
+  module _ {h : History} (g : Good h) (i : Input) (l : InputIn i) where
     kept : Keeps (g .before) (h .device) (i .event) (step b (h .device) i)
     kept = keeps b (g .before) (h .device) i (g .shaped)
 
@@ -84,12 +85,12 @@ module _ (b : Board) (board : BoardIn b) where
           losing = subst (Losing (step b (h .device) i .next)) (sym lost-next) (losing-keeps b (g .before) (g .before ++ kept .more) (h .device) i (h .lost) (g .losing));
         }
 
-  good-after : (is : List Input) → InputsIn is → {h : History} → Good h → Good (after b h is)
+  good-after : (is : List Input) → Each InputIn is → {h : History} → Good h → Good (after b h is)
   unfolding after
   good-after [] l g = g
   good-after (i ∷ is) l g = good-after is (l .1) (good-next g i (l .0))
 
-  good : (is : List Input) → InputsIn is → Good (history b is)
+  good : (is : List Input) → Each InputIn is → Good (history b is)
   unfolding history wires
   good is l =
       good-after is l record {
@@ -106,7 +107,7 @@ module _ (b : Board) (board : BoardIn b) where
 
   -- ---- demand 2, the bytes
 
-  pub demand2-wire : (is : List Input) → InputsIn is → (i : Input) → EventIn (i .event) → Demand2Wire b is i
+  pub demand2-wire : (is : List Input) → Each InputIn is → (i : Input) → InputIn i → Demand2Wire b is i
   demand2-wire is l i e =
       let ms = step b (history b is .device) i .written in
       let s = ranged (good is l) i e .sendable in
@@ -132,10 +133,7 @@ module _ (b : Board) (board : BoardIn b) where
   at-most-one orphan = zero-le
   at-most-one (configuring c) = zero-le
 
-  length-open : (s : State) → length (openOf s) ≡ open# (s .air)
-  length-open s = simp (length-append, length-map)
-
-  pub demand3 : (is : List Input) → InputsIn is → Demand3 b is
+  pub demand3 : (is : List Input) → Each InputIn is → Demand3 b is
   demand3 is l =
       let g = good is l in
       let h = history b is in
@@ -156,7 +154,7 @@ module _ (b : Board) (board : BoardIn b) where
   closed# g = length (g .before)
 
   -- one event more: no number is lost, no closed one opens, and while any is open each busy, sent or fault taken closes one
-  module _ {h : History} (g : Good h) (i : Input) (l : EventIn (i .event)) where
+  module _ {h : History} (g : Good h) (i : Input) (l : InputIn i) where
     more : closed# g + length (kept g i l .more) ≡ closed# (good-next g i l)
     unfolding good-next
     more = sym (length-append (g .before) (kept g i l .more))
@@ -169,13 +167,13 @@ module _ (b : Board) (board : BoardIn b) where
     unfolding onward
     gained o = omega (arith, more, kept g i l .pace o)
 
-  stays : (is : List Input) (l : InputsIn is) {h : History} (g : Good h) → closed# g ≤ closed# (good-after is l g)
+  stays : (is : List Input) (l : Each InputIn is) {h : History} (g : Good h) → closed# g ≤ closed# (good-after is l g)
   unfolding good-after after
   stays [] l g = le-refl _
   stays (i ∷ is) l g = le-trans (omega (arith, more g i (l .0))) (stays is (l .1) (good-next g i (l .0)))
 
   -- the TX with number n is closed once as many have ended as are open up to it
-  late : (is : List Input) (l : InputsIn is) {h : History} (g : Good h) (n : ℕ) → n < closed# g + open# (h .device .air) → suc n ≤ closed# g + outcomes b h is
+  late : (is : List Input) (l : Each InputIn is) {h : History} (g : Good h) (n : ℕ) → n < closed# g + open# (h .device .air) → suc n ≤ closed# g + outcomes b h is
       → n < closed# (good-after is l g)
   unfolding good-after after outcomes
   late [] l g n h k = omega arith
@@ -214,7 +212,7 @@ module _ (b : Board) (board : BoardIn b) where
   closed-at (was-dropped t ∷ c) l zero d h = refl
   closed-at (x ∷ c) l (suc n) d h = closed-at c l n d (le-of-suc-le-suc h)
 
-  pub in-time : (is : List Input) → InputsIn is → InTime b is
+  pub in-time : (is : List Input) → Each InputIn is → InTime b is
   in-time is l n m js r k =
       let g = good is l in
       let e = good-after js r g in
@@ -227,7 +225,7 @@ module _ (b : Board) (board : BoardIn b) where
 
   -- ---- the drop count
 
-  pub drop-count : (is : List Input) → InputsIn is → DropCount b is
+  pub drop-count : (is : List Input) → Each InputIn is → DropCount b is
   drop-count is l i e =
       let g = good is l in
       ap dropCounts (read-all (step b (history b is .device) i .written) (ranged g i e .sendable)) ∙ reports b (history b is .device) i (history b is .lost) (g .losing)

@@ -78,7 +78,7 @@ keeps-by : {c : List Closed} {s : State} {e : Event} {o : Out} (m : List Closed)
     → open# (s .air) ≤ length m + open# (o .next .air) → (0 < open# (o .next .air) → passed e (o .number) ≤ length m) → Keeps c s e o
 keeps-by m a h w n g p = record { more = m; agrees = a; shape = h; writes = w; reports = n; grows = g; pace = p }
 
-length-open : (s : State) → length (openOf s) ≡ open# (s .air)
+pub length-open : (s : State) → length (openOf s) ≡ open# (s .air)
 length-open s = simp (length-append, length-map)
 
 -- an event after which the same TX are open, in the same places

@@ -2,9 +2,9 @@
 -- Assumes nothing.
 use mathlib.Core.Path.{_≡_, refl, ap, ap₂}
 use mathlib.Core.Bool.{false}
-use mathlib.Core.List.{List, [], _∷_, _++_, map, append-assoc}
-use Prim.Native.Nat.{ℕ, suc}
-use lib.ListN.{length}
+use mathlib.Core.List.{List, [], _∷_, _++_, map, map-append, append-assoc}
+use Prim.Native.Nat.{ℕ, _+_}
+use lib.ListN.{length, length-append}
 use Rattle.kind.specs.Kinds.{ERR}
 use Rattle.device.specs.State.{Tx, tagsOf}
 use Rattle.device.specs.Messages.{Message, cancelled}
@@ -75,13 +75,15 @@ pub queue-dropped : (ts : List ℕ) → map (openTo dropped) (inQueue ts) ≡ ma
 queue-dropped [] = refl
 queue-dropped (t ∷ ts) = ap (λ ys. entry t dropped ∷ ys) (queue-dropped ts)
 
-pub queue-more : (ws : List Tx) (x : Tx) → inQueue (tagsOf (ws ++ (x ∷ []))) ≡ inQueue (tagsOf ws) ++ (entry (x .tag) waits ∷ [])
-queue-more [] x = refl
-queue-more (w ∷ ws) x = ap (λ ys. entry (w .tag) waits ∷ ys) (queue-more ws x)
+pub tags-more : (ws : List Tx) (x : Tx) → tagsOf (ws ++ (x ∷ [])) ≡ tagsOf ws ++ (x .tag ∷ [])
+tags-more [] x = refl
+tags-more (w ∷ ws) x = ap (λ (ts : List ℕ). w .tag ∷ ts) (tags-more ws x)
 
-pub length-queue : (ws : List Tx) (x : Tx) → length (tagsOf (ws ++ (x ∷ []))) ≡ suc (length (tagsOf ws))
-length-queue [] x = refl
-length-queue (w ∷ ws) x = ap suc (length-queue ws x)
+pub queue-more : (ws : List Tx) (x : Tx) → inQueue (tagsOf (ws ++ (x ∷ []))) ≡ inQueue (tagsOf ws) ++ (entry (x .tag) waits ∷ [])
+queue-more ws x = rw (tags-more ws x, map-append)
+
+pub length-queue : (ws : List Tx) (x : Tx) → length (tagsOf (ws ++ (x ∷ []))) ≡ length (tagsOf ws) + 1
+length-queue ws x = rw (tags-more ws x, length-append)
 
 -- ---- what is newly reported
 

@@ -1,4 +1,5 @@
 pub mod Laws
+pub mod Computing
 pub mod Witnesses
 pub mod Keeping
 pub mod Losing

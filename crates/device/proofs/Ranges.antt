@@ -10,12 +10,12 @@ use Prim.Native.Nat.{ℕ, zero, suc, _+_, _-_, _*_, _/_, _<_, _≤_, min, zero-l
 use native.Mathlib.Omega.{arith}
 use borrow.Author.Tests.{not-false, leb-true, leb-false, eqb-true}
 use lib.Dec.{leb, ltb, eqb}
-use lib.ListN.{length, take, drop, length-append, length-take, length-drop, take-append-drop}
+use lib.ListN.{length, take, drop, length-append, length-take, length-drop}
 use Rattle.cobs.specs.Answers.{encodedMax}
 use Rattle.cobs.specs.Decoding.{decoded}
-use Rattle.scalar.specs.Bytes.{Bytes}
+use Rattle.scalar.specs.Bytes.{Each, IsByte, Bytes}
 use Rattle.scalar.specs.Scalars.{le, get}
-use Rattle.scalar.proofs.Bytes.{bytes-append, bytes-take, bytes-drop}
+use Rattle.scalar.proofs.Bytes.{each-append, each-right, each-take, each-drop}
 use Rattle.buffer.specs.Lay.{lay}
 use Rattle.kind.specs.Kinds.{GET-INFO, SET-CONFIG, TX, RX, RX-START, RX-STOP, isCommand}
 use Rattle.frame.specs.Body.{overhead, payloadOf}
@@ -42,9 +42,10 @@ use Rattle.device.specs.Messages.{Message, wires, ok, okInfo, okConfigur
 use Rattle.device.specs.Frames.{Received, damaged, command, received, untagged, unconfigured, needsConfig, strange, configSized, sized, objection, good, settingOf, txOf}
 use Rattle.device.specs.Events.{Out, taken, begun, start, begin, next, afterTx, says, waitsFor, onTx, onSet, turned, onCommand, unless, onReceived, onRun, onByte, unlessStalled, onClear, onBusy, onSent, onConfigured, inForce, heard, onFault, cut, kept, dropsMax, listens, onPacket, onRequest, ended, endSession, ticksMax, onTick, onDisconnect, onEvent, roomMin, unlessRoom, step}
 use Rattle.device.specs.Tally.{wrote}
-use Rattle.device.specs.Ranges.{PacketIn, EventIn, BoardIn}
+use Rattle.device.specs.Ranges.{PacketIn, EventIn, InputIn, BoardIn}
 use Rattle.device.specs.Demands.{seen}
-use Rattle.device.proofs.Wires.{Each, each-append, each-right, Sendable, AllSendable, sendable-append, length-wire, wires-append}
+use Rattle.device.proofs.Laws.{tags-more}
+use Rattle.device.proofs.Wires.{Sendable, AllSendable, sendable-append, length-wire, wires-append}
 use Rattle.device.proofs.Back.{TagIn, ConfigIn, ok-sent, info-sent, configured-sent, err-sent, done-sent, rx-sent}
 
 -- ---- the state
@@ -181,15 +182,11 @@ moved : (q r : Radio) {ws : List Tx} {p o : Option Setting} → held q ≡ held 
 moved q r e x y i = record { tags = rw e at (i .tags); few = rw e at (i .few); radio = x; pending = y }
 
 -- one TX more waits
-tags-snoc : (ws : List Tx) (x : Tx) → tagsOf (ws ++ (x ∷ [])) ≡ tagsOf ws ++ (x .tag ∷ [])
-tags-snoc [] x = refl
-tags-snoc (w ∷ ws) x = ap (λ (ts : List ℕ). w .tag ∷ ts) (tags-snoc ws x)
-
 joined : (x : Tx) → TagIn (x .tag) → (r : Radio) {ws : List Tx} {p : Option Setting} → open# (air r ws p) < txMax → AirIn (air r ws p)
     → AirIn (air r (ws ++ (x ∷ [])) p)
 joined x t r {ws} l i =
     let e : held r ++ tagsOf (ws ++ (x ∷ [])) ≡ (held r ++ tagsOf ws) ++ (x .tag ∷ []) =
-    ap (λ (ts : List ℕ). held r ++ ts) (tags-snoc ws x) ∙ sym (append-assoc (held r) (tagsOf ws) (x .tag ∷ [])) in
+    ap (λ (ts : List ℕ). held r ++ ts) (tags-more ws x) ∙ sym (append-assoc (held r) (tagsOf ws) (x .tag ∷ [])) in
     record {
       tags = rw e (each-append TagIn (held r ++ tagsOf ws) (x .tag ∷ []) (i .tags) (t, tt));
       few = rw (e, length-append (held r ++ tagsOf ws) (x .tag ∷ [])) (omega arith);
@@ -225,7 +222,7 @@ kept-in : (p : Packet) → HeldIn p → (i : Inbox) → InboxIn i → InboxIn (k
 kept-in p k i h = go (ltb (length (i .ring)) ringMax)
   where
     later : Each HeldIn (drop 1 (i .ring))
-    later = each-right HeldIn (take 1 (i .ring)) (drop 1 (i .ring)) (rw (take-append-drop 1 (i .ring)) (h .ring))
+    later = each-drop HeldIn 1 (i .ring) (h .ring)
 
     go : (room : Bool)
         → InboxIn (cond room (inbox (i .receiving) (i .ring ++ (p ∷ [])) (i .drops))
@@ -449,7 +446,7 @@ received-in run h = go (openAnswer run encodedMax) refl
     go (O.Body kind zero n) e = tt
     go (O.Body kind (suc t) n) e =
         let b = decoded run in
-        ((omega arith, opened-tag run encodedMax h e), bytes-take (length b - overhead) (drop 3 b) (bytes-drop 3 b (decoded-bytes run h)))
+        ((omega arith, opened-tag run encodedMax h e), each-take IsByte (length b - overhead) (drop 3 b) (each-drop IsByte 3 b (decoded-bytes run h)))
     go (O.Refused r) e = tt
 
 -- ---- byte
@@ -492,7 +489,7 @@ module _ (b : Board) (board : BoardIn b) (s : State) (h : StateIn s) where
 
   byte-kept : (n : ℕ) → n < 256 → Kept (onByte b n s)
   byte-kept zero l = run-kept (s .link .run) (h .run)
-  byte-kept (suc n) l = still (with-run s h (bytes-append (s .link .run) (suc n ∷ []) (h .run) (l, tt)))
+  byte-kept (suc n) l = still (with-run s h (each-append IsByte (s .link .run) (suc n ∷ []) (h .run) (l, tt)))
 
   stalled-kept : (stall : Bool) (n : ℕ) → n < 256 → Kept (unlessStalled stall b n s)
   stalled-kept true n l = still h
@@ -516,7 +513,7 @@ module _ (b : Board) (board : BoardIn b) (s : State) (h : StateIn s) where
   room-kept true e l = still h
   room-kept false e l = event-kept e l
 
-pub keeps : (b : Board) → BoardIn b → (s : State) → StateIn s → (i : Input) → EventIn (i .event) → Kept (step b s i)
+pub keeps : (b : Board) → BoardIn b → (s : State) → StateIn s → (i : Input) → InputIn i → Kept (step b s i)
 unfolding step
 keeps b board s h i l = room-kept b board s h (ltb (i .room) roomMin) (i .event) l
 

@@ -10,6 +10,8 @@ use lib.ListN.{length, replicate}
 use Rattle.cobs.specs.Encoding.{encoded, worst}
 use Rattle.cobs.specs.Answers.{bodyMax, encodedMax}
 use Rattle.cobs.proofs.Laws.{length-bound, round-trip}
+use Rattle.scalar.specs.Bytes.{Each}
+use Rattle.scalar.proofs.Bytes.{each-append}
 use Rattle.frame.specs.Body.{body, overhead, payloadMax, payloadOf}
 use Rattle.frame.specs.Stream.{runs}
 use Rattle.frame.proofs.Laws.{length-body, payload-body, frame-opens}
@@ -21,21 +23,6 @@ use Rattle.answer.specs.Ranges.{AnswerIn}
 use Rattle.answer.proofs.Laws.{answer-small}
 use Rattle.device.specs.Messages.{Message, payload, wire, wires, Frame, found, frameIn, framesIn, frames}
 use Rattle.device.specs.Demands.{seen}
-
--- ---- what holds of each of a list
-
-abbrev pub Each : {A : Type 0} → (A → Type 0) → List A → Type 0
-Each P [] = Unit {0}
-Each P (x ∷ xs) = P x × Each P xs
-
-module _ {A : Type 0} (P : A → Type 0) where
-  pub each-append : (xs ys : List A) → Each P xs → Each P ys → Each P (xs ++ ys)
-  each-append [] ys p q = q
-  each-append (x ∷ xs) ys p q = (p .0, each-append xs ys (p .1) q)
-
-  pub each-right : (xs ys : List A) → Each P (xs ++ ys) → Each P ys
-  each-right [] ys p = p
-  each-right (x ∷ xs) ys p = each-right xs ys (p .1)
 
 -- what the writer of answers takes: values of their types, a tag that the message may have, and a payload of the answer's form
 pub record Sendable (m : Message) : Type 0 where

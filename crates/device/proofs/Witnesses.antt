@@ -1,5 +1,5 @@
--- The demands on single histories, by computing. They follow from the theorems; here each wrong device of must-fail/ is seen to break the demand itself, and not
--- only its proof.
+-- Demand 3 and the drop count on single histories, by computing. They follow from the theorems; here the wrong devices of must-fail/ are seen to break what is
+-- demanded, and not only its proof.
 -- Assumes nothing.
 use Prim.Native.Nat.{ℕ, zero, suc}
 use mathlib.Core.Path.{_≡_, refl}
@@ -8,44 +8,22 @@ use mathlib.Core.List.{List, [], _∷_, _++_, map}
 use lib.Dec.{leb}
 use lib.IntN.{pos}
 use lib.ListN.{length, replicate}
-use Rattle.buffer.specs.Lay.{lay}
-use Rattle.crc16.specs.Crc.{bit, bits, crcFrom, crcOf}
-use Rattle.crc16.specs.Crc as C
-use Rattle.cobs.specs.Encoding.{cut, encoded}
-use Rattle.cobs.specs.Encoding as E
-use Rattle.cobs.specs.Decoding.{hasZero, whole, broken, parts, groups, joined, decoded}
-use Rattle.scalar.specs.Scalars.{le, number, signed, unsigned}
-use Rattle.frame.specs.Body.{covered, body}
-use Rattle.frame.specs.Body as B
-use Rattle.frame.specs.Reading.{openBody, openAnswer}
-use Rattle.frame.specs.Stream.{runs}
-use Rattle.kind.specs.Kinds.{SET-CONFIG, TX, RX-START, isCommand}
-use Rattle.modulation.specs.Lora.{loraOf, loraBytes}
-use Rattle.modulation.specs.Modulations.{configOf, configBytes, syncWord}
-use Rattle.rx.specs.Rx.{rxOf, rxBytes}
-use Rattle.answer.specs.Answers.{configuredBytes, txDoneBytes, answerBytes}
-use Rattle.board.specs.Board.{among, sx1262}
-use Rattle.board.specs.Params.{loraGood, paramsGood}
-use Rattle.board.specs.Ldro.{slow, ldro}
-use Rattle.device.specs.State.{Packet, Event, tick, sent, configured, fault, packet, request, disconnect, byte, Input}
-use Rattle.device.specs.Messages.{wire, wires, frameIn, framesIn, frames}
-use Rattle.device.specs.Frames.{received, objection}
-use Rattle.device.specs.Events.{listens, idle, step}
-use Rattle.device.specs.Tally.{Entry, entry, withRadio, waits, tallied, dones, newlyReported}
-use Rattle.device.specs.Lost.{losing}
-use Rattle.device.specs.Demands.{onward, after, history, answer, Closed, was-reported, was-dropped, closed, withRadioOf, waitingOf, dropCounts}
-use Rattle.device.specs.Scripts.{lent, bytesIn, sends}
-
--- what all of it computes with: `unfolding computes` opens these
-computes : Unit {0}
-unfolding lay bit bits C.byte crcFrom crcOf cut encoded E.wire hasZero whole broken parts groups joined decoded le number signed unsigned covered body B.frame openBody openAnswer runs isCommand loraOf loraBytes configOf configBytes syncWord rxOf rxBytes configuredBytes txDoneBytes answerBytes among sx1262 loraGood paramsGood slow ldro wire wires frameIn framesIn frames received objection listens idle step tallied losing onward after history dropCounts
-computes = tt
+use Rattle.cobs.specs.Encoding.{encoded}
+use Rattle.frame.specs.Body.{body}
+use Rattle.kind.specs.Kinds.{SET-CONFIG, TX, RX-START}
+use Rattle.board.specs.Board.{sx1262}
+use Rattle.device.specs.State.{Packet, Event, tick, sent, fault, packet, request, disconnect, byte, Input}
+use Rattle.device.specs.Messages.{frames}
+use Rattle.device.specs.Tally.{Entry, entry, withRadio, waits, dones, newlyReported}
+use Rattle.device.specs.Demands.{onward, history, answer, Closed, was-reported, was-dropped, closed, withRadioOf, waitingOf, dropCounts}
+use Rattle.device.specs.Scripts.{lent, bytesIn, sends, lora, ready}
+use Rattle.device.proofs.Computing.{computes}
 
 -- ---- the clauses of demand 3, of one history
 
 -- `each`, at one event more: both are the tags ts
-abbrev Each : List Input → Event → List ℕ → Type 0
-Each is e ts =
+abbrev Reports : List Input → Event → List ℕ → Type 0
+Reports is e ts =
     (dones (frames (answer sx1262 (history sx1262 is) (lent e) .bytes)) ≡ ts)
     × (newlyReported (history sx1262 is .tally .txs) (onward sx1262 (history sx1262 is) (lent e) .tally .txs) ≡ ts)
 
@@ -61,13 +39,6 @@ Few is = leb (length (withRadioOf (history sx1262 is .device) ++ waitingOf (hist
 
 -- ---- scripts
 
--- P C.2.3: the payload of its SET_CONFIG, and the events by which it configures the device
-abbrev params : List ℕ
-params = 0x01 ∷ 0xA0 ∷ 0x27 ∷ 0xBE ∷ 0x33 ∷ 0x07 ∷ 0x07 ∷ 0x00 ∷ 0x08 ∷ 0x00 ∷ 0x24 ∷ 0x14 ∷ 0x0E ∷ 0x00 ∷ 0x01 ∷ 0x00 ∷ []
-
-abbrev ready : List Input
-ready = sends SET-CONFIG 3 params ++ (lent configured ∷ [])
-
 -- a TX with skip_cad: on air at once, if the radio is free
 abbrev tx : ℕ → List Input
 tx t = sends TX t (0x01 ∷ 0x41 ∷ [])
@@ -79,23 +50,23 @@ two = ready ++ (tx 20 ++ tx 21)
 -- ---- each TX_DONE, and each place
 
 -- a SET_CONFIG falls into a transmission
-pub set-config-on-air : Each (two ++ bytesIn (encoded (body SET-CONFIG 22 params))) (byte 0) []
+pub set-config-on-air : Reports (two ++ bytesIn (encoded (body SET-CONFIG 22 (lora 7 14)))) (byte 0) []
 unfolding computes
 set-config-on-air = (refl, refl)
 
 -- an orphan has been sent
-pub orphan-sent : Each (ready ++ (tx 20 ++ (lent disconnect ∷ []))) (sent 33792) []
+pub orphan-sent : Reports (ready ++ (tx 20 ++ (lent disconnect ∷ []))) (sent 33792) []
 unfolding computes
 orphan-sent = (refl, refl)
 
 -- a TX has been sent
-pub tx-sent : Each two (sent 33792) (20 ∷ [])
+pub tx-sent : Reports two (sent 33792) (20 ∷ [])
 unfolding computes
 tx-sent = (refl, refl)
 
 -- a fault while a SET_CONFIG waits, and then a second without a frame
 abbrev faulted : List Input
-faulted = two ++ (sends SET-CONFIG 22 params ++ (lent fault ∷ replicate 1000 (lent tick)))
+faulted = two ++ (sends SET-CONFIG 22 (lora 7 14) ++ (lent fault ∷ replicate 1000 (lent tick)))
 
 pub fault-and-silence : Places faulted (was-reported 20 ∷ was-reported 21 ∷ []) []
 unfolding computes

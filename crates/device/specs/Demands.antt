@@ -11,6 +11,7 @@ use Rattle.numbers.specs.Numbers.{TAKEN, ROOM, STALL, PLACE}
 use Rattle.kind.specs.Kinds.{RX}
 use Rattle.rx.specs.Rx.{rxOf}
 use Rattle.buffer.specs.Lay.{lay}
+use Rattle.scalar.specs.Bytes.{Each}
 use Rattle.kind.specs.declared.Name.{Name}
 use Rattle.cobs.specs.Encoding.{encoded}
 use Rattle.cobs.specs.Answers.{encodedMax}
@@ -30,7 +31,7 @@ use Rattle.device.specs.Frames.{damaged, received}
 use Rattle.device.specs.Events.{taken, refused, step, Reply, reply}
 use Rattle.device.specs.Tally.{Place, reported, dropped, withRadio, waits, Entry, entry, open?, Tally, noTally, ifTaken, tallied, wrote, dones, reportedTags, newlyReported}
 use Rattle.device.specs.Lost.{Lost, noneLost, losing}
-use Rattle.device.specs.Ranges.{EventIn, InputsIn}
+use Rattle.device.specs.Ranges.{InputIn}
 
 -- ---- demand 1, for every state
 
@@ -142,14 +143,10 @@ pub record Back (m : Message) : Type 0 where
   pub same : (name : Name) → Names (m .answer) name → readAnswer (answerKind (m .answer)) name (payload m) ≡ D.Answer (m .answer)
   pub bytes : (name : Name) → Names (m .answer) name → answerTail (answerKind (m .answer)) name (payload m) ≡ m .bytes
 
-abbrev pub AllBack : List Message → Type 0
-AllBack [] = Unit {0}
-AllBack (m ∷ ms) = Back m × AllBack ms
-
 -- demand2-wire: splitting what was written at its zeros and opening each run gives the messages, and each is read as the same message
 pub record Demand2Wire (b : Board) (is : List Input) (i : Input) : Type 0 where
   pub split : frames (answer b (history b is) i .bytes) ≡ map seen (step b (history b is .device) i .written)
-  pub back : AllBack (step b (history b is .device) i .written)
+  pub back : Each Back (step b (history b is .device) i .written)
 
 -- ---- demand 3
 
@@ -178,13 +175,13 @@ pub record Demand3 (b : Board) (is : List Input) : Type 0 where
   pub one : length (withRadioOf (history b is .device)) ≤ 1
   pub few : length (withRadioOf (history b is .device) ++ waitingOf (history b is .device)) ≤ 16
   -- the TX_DONEs that one event more writes are those of the TX that the tally reports at it: one each, with its tag, in number order
-  pub each : (i : Input) → EventIn (i .event)
+  pub each : (i : Input) → InputIn i
       → dones (frames (answer b (history b is) i .bytes)) ≡ newlyReported (history b is .tally .txs) (onward b (history b is) i .tally .txs)
   -- in all that was written, each reported TX has one TX_DONE, and they come in number order
   pub whole : dones (frames (history b is .bytes)) ≡ reportedTags (history b is .tally .txs)
   -- one event more writes at most 283 bytes, and at most 201 if it delivers no packet
-  pub most : (i : Input) → EventIn (i .event) → length (answer b (history b is) i .bytes) ≤ 283
-  pub most-but-packets : (i : Input) → EventIn (i .event) → wrote RX (frames (answer b (history b is) i .bytes)) ≡ false
+  pub most : (i : Input) → InputIn i → length (answer b (history b is) i .bytes) ≤ 283
+  pub most-but-packets : (i : Input) → InputIn i → wrote RX (frames (answer b (history b is) i .bytes)) ≡ false
       → length (answer b (history b is) i .bytes) ≤ 201
 
 -- ---- 01's last line on events
@@ -221,7 +218,7 @@ placeAt n h = placeOf (getD (h .tally .txs) n (entry 0 waits))
 -- in-time: a TX with k open before it is open no more once k + 1 have been taken: it is reported, or its session has ended and it is dropped
 abbrev pub InTime : Board → List Input → Type 0
 InTime b is =
-    (n : ℕ) → n < length (history b is .tally .txs) → (js : List Input) → InputsIn js
+    (n : ℕ) → n < length (history b is .tally .txs) → (js : List Input) → Each InputIn js
     → suc (opens (take n (history b is .tally .txs))) ≤ outcomes b (history b is) js
     → open? (placeAt n (after b (history b is) js)) ≡ false
 
@@ -251,6 +248,6 @@ due e n l = request? e && ifTaken n (ltb 0 (l .here)) false
 -- drop-count: an RX comes when it is due, and reports as many packets as were lost, up to 65,535
 abbrev pub DropCount : Board → List Input → Type 0
 DropCount b is =
-    (i : Input) → EventIn (i .event)
+    (i : Input) → InputIn i
     → dropCounts (frames (answer b (history b is) i .bytes))
     ≡ cond (due (i .event) (answer b (history b is) i .number) (history b is .lost)) (min (history b is .lost .lost) 65535 ∷ []) []

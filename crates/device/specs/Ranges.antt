@@ -1,7 +1,6 @@
 -- Each number of an event, and of a board, is a value of its type: a byte, an airtime of u32, and a packet's values as P 5.1 and 6.9 have them.
 -- Assumes nothing.
 use Prim.Native.Nat.{_<_, _≤_}
-use mathlib.Core.List.{List, [], _∷_}
 use lib.ListN.{length}
 use lib.Signed.{mag}
 use Rattle.scalar.specs.Scalars.{i16, i32}
@@ -29,9 +28,8 @@ EventIn (packet p) = PacketIn p
 EventIn request = Unit {0}
 EventIn disconnect = Unit {0}
 
-abbrev pub InputsIn : List Input → Type 0
-InputsIn [] = Unit {0}
-InputsIn (i ∷ is) = EventIn (i .event) × InputsIn is
+abbrev pub InputIn : Input → Type 0
+InputIn i = EventIn (i .event)
 
 -- of a board, and its uids have lengths that P 6.2 allows
 pub record BoardIn (b : Board) : Type 0 where

@@ -10,8 +10,8 @@ use lib.Dec.{eqb}
 use lib.ListN.{length, drop, length-take, length-drop}
 use Rattle.cobs.specs.Groups.{isFull, into}
 use Rattle.cobs.specs.Decoding.{toCome, parts, groups, gap, joined, decoded}
-use Rattle.scalar.specs.Bytes.{Bytes}
-use Rattle.scalar.proofs.Bytes.{bytes-append, get-small}
+use Rattle.scalar.specs.Bytes.{Each, IsByte, Bytes}
+use Rattle.scalar.proofs.Bytes.{each-append, get-small}
 use Rattle.frame.specs.Body.{overhead, payloadMax, payloadOf}
 use Rattle.frame.specs.Reading.{openAnswer}
 use Rattle.frame.specs.declared.Opened.the-variants as O
@@ -19,20 +19,16 @@ use Rattle.frame.proofs.Laws.{opens-facts}
 
 -- ---- groups of bytes
 
-abbrev Each : List (List ℕ) → Type 0
-Each [] = Unit {0}
-Each (g ∷ gs) = Bytes g × Each gs
-
-into-each : (x : ℕ) (gs : List (List ℕ)) → x < 256 → Each gs → Each (into x gs)
+into-each : (x : ℕ) (gs : List (List ℕ)) → x < 256 → Each Bytes gs → Each Bytes (into x gs)
 into-each x [] h e = ((h, tt), tt)
 into-each x (g ∷ gs) h e = ((h, e .0), e .1)
 
 -- a code begins a group, any other byte joins one
-next-each : (code : Bool) (x : ℕ) (gs : List (List ℕ)) → x < 256 → Each gs → Each (cond code ([] ∷ gs) (into x gs))
+next-each : (code : Bool) (x : ℕ) (gs : List (List ℕ)) → x < 256 → Each Bytes gs → Each Bytes (cond code ([] ∷ gs) (into x gs))
 next-each true x gs h e = (tt, e)
 next-each false x gs h e = into-each x gs h e
 
-parts-each : (n : ℕ) (xs : List ℕ) → Bytes xs → Each (parts n xs)
+parts-each : (n : ℕ) (xs : List ℕ) → Bytes xs → Each Bytes (parts n xs)
 unfolding parts
 parts-each n [] b = (tt, tt)
 parts-each n (x ∷ xs) b = next-each (eqb n 0) x (parts (toCome n x) xs) (b .0) (parts-each (toCome n x) xs (b .1))
@@ -46,11 +42,11 @@ gap-bytes g (h ∷ hs) = go (isFull g)
     go true = tt
     go false = (omega arith, tt)
 
-joined-bytes : (gs : List (List ℕ)) → Each gs → Bytes (joined gs)
+joined-bytes : (gs : List (List ℕ)) → Each Bytes gs → Bytes (joined gs)
 unfolding joined
 joined-bytes [] e = tt
 joined-bytes (g ∷ gs) e =
-    bytes-append g (gap g gs ++ joined gs) (e .0) (bytes-append (gap g gs) (joined gs) (gap-bytes g gs) (joined-bytes gs (e .1)))
+    each-append IsByte g (gap g gs ++ joined gs) (e .0) (each-append IsByte (gap g gs) (joined gs) (gap-bytes g gs) (joined-bytes gs (e .1)))
 
 -- what is decoded from bytes is bytes
 pub decoded-bytes : (xs : List ℕ) → Bytes xs → Bytes (decoded xs)

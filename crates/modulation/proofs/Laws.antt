@@ -11,9 +11,9 @@ use lib.Dec.{ltb, eqb}
 use lib.ListN.{length, take, drop}
 use lib.Seq.{take-all}
 use Rattle.buffer.specs.Lay.{lay}
-use Rattle.scalar.specs.Bytes.{Bytes}
+use Rattle.scalar.specs.Bytes.{IsByte, Bytes}
 use Rattle.scalar.specs.Scalars.{le, number, i8, get}
-use Rattle.scalar.proofs.Bytes.{bytes-drop, get-small}
+use Rattle.scalar.proofs.Bytes.{each-drop, get-small}
 use Rattle.scalar.proofs.Laws.{signed-back, mag-signed, number-le}
 use Rattle.form.specs.Forms.{exactly}
 use Rattle.form.proofs.Laws.{exactly-size, passed}
@@ -184,5 +184,5 @@ unfolding configOf
 config-in p b = go (eqb (get modulation-id p) LORA)
   where
     go : (lora : Bool) → ModulationIn (cond lora (M.Lora (loraOf (paramsOf p))) (M.Fsk (fskOf (paramsOf p))))
-    go true = lora-in (paramsOf p) (bytes-drop 1 p b)
-    go false = fsk-in (paramsOf p) (bytes-drop 1 p b)
+    go true = lora-in (paramsOf p) (each-drop IsByte 1 p b)
+    go false = fsk-in (paramsOf p) (each-drop IsByte 1 p b)

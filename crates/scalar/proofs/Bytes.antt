@@ -1,4 +1,4 @@
--- Laws of lists of bytes: put together and cut they are bytes again, and the number in n of them is below 256 ^ n. By induction on the list.
+-- What holds of each of a list, put together and cut; and the number in n bytes is below 256 ^ n. By induction on the list.
 -- Assumes nothing.
 use mathlib.Core.List.{List, [], _∷_, _++_}
 use Prim.Native.Nat.{ℕ, zero, suc, _^_, _<_, _≤_}
@@ -6,21 +6,26 @@ use native.Mathlib.Nat.{pow-succ', one-le-pow, not-suc-le-zero, le-of-suc-le-suc
 use native.Mathlib.Omega.{arith}
 use lib.ListN.{length, take, drop, length-take}
 use Rattle.scalar.specs.Scalars.{number, column, get}
-use Rattle.scalar.specs.Bytes.{Bytes}
+use Rattle.scalar.specs.Bytes.{Each, IsByte, Bytes}
 
-pub bytes-append : (a b : List ℕ) → Bytes a → Bytes b → Bytes (a ++ b)
-bytes-append [] b p q = q
-bytes-append (x ∷ a) b p q = (p .0, bytes-append a b (p .1) q)
+module _ {A : Type 0} (P : A → Type 0) where
+  pub each-append : (xs ys : List A) → Each P xs → Each P ys → Each P (xs ++ ys)
+  each-append [] ys p q = q
+  each-append (x ∷ xs) ys p q = (p .0, each-append xs ys (p .1) q)
 
-pub bytes-take : (n : ℕ) (bs : List ℕ) → Bytes bs → Bytes (take n bs)
-bytes-take zero bs p = tt
-bytes-take (suc n) [] p = tt
-bytes-take (suc n) (b ∷ bs) p = (p .0, bytes-take n bs (p .1))
+  pub each-right : (xs ys : List A) → Each P (xs ++ ys) → Each P ys
+  each-right [] ys p = p
+  each-right (x ∷ xs) ys p = each-right xs ys (p .1)
 
-pub bytes-drop : (n : ℕ) (bs : List ℕ) → Bytes bs → Bytes (drop n bs)
-bytes-drop zero bs p = p
-bytes-drop (suc n) [] p = tt
-bytes-drop (suc n) (b ∷ bs) p = bytes-drop n bs (p .1)
+  pub each-take : (n : ℕ) (xs : List A) → Each P xs → Each P (take n xs)
+  each-take zero xs p = tt
+  each-take (suc n) [] p = tt
+  each-take (suc n) (x ∷ xs) p = (p .0, each-take n xs (p .1))
+
+  pub each-drop : (n : ℕ) (xs : List A) → Each P xs → Each P (drop n xs)
+  each-drop zero xs p = p
+  each-drop (suc n) [] p = tt
+  each-drop (suc n) (x ∷ xs) p = each-drop n xs (p .1)
 
 -- the number in at most n bytes
 pub number-small : (bs : List ℕ) → Bytes bs → (n : ℕ) → length bs ≤ n → number bs < 256 ^ n
@@ -34,4 +39,4 @@ number-small (b ∷ bs) p (suc n) h =
 
 -- and so in a column
 pub get-small : (at n : ℕ) (p : List ℕ) → Bytes p → get (column at n) p < 256 ^ n
-get-small at n p b = number-small (take n (drop at p)) (bytes-take n (drop at p) (bytes-drop at p b)) n (omega (arith, length-take n (drop at p)))
+get-small at n p b = number-small (take n (drop at p)) (each-take IsByte n (drop at p) (each-drop IsByte at p b)) n (omega (arith, length-take n (drop at p)))

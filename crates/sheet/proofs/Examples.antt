@@ -9,37 +9,18 @@ use mathlib.Core.Option.{none, some}
 use lib.IntN.{pos, negsuc}
 use lib.ListN.{replicate, drop}
 use Rattle.numbers.specs.Numbers.{TAKEN, ROOM, STALL}
-use Rattle.buffer.specs.Lay.{lay}
-use Rattle.crc16.specs.Crc.{bit, bits, crcFrom, crcOf}
-use Rattle.crc16.specs.Crc as C
-use Rattle.cobs.specs.Encoding.{cut, encoded}
-use Rattle.cobs.specs.Encoding as E
-use Rattle.cobs.specs.Decoding.{hasZero, whole, broken, parts, groups, joined, decoded}
-use Rattle.scalar.specs.Scalars.{le, number, signed, unsigned}
-use Rattle.frame.specs.Body.{covered, body}
-use Rattle.frame.specs.Body as B
-use Rattle.frame.specs.Reading.{openBody, openAnswer}
-use Rattle.kind.specs.Kinds.{SET-CONFIG, TX, RX-START, isCommand}
-use Rattle.modulation.specs.Lora.{loraOf, loraBytes}
-use Rattle.modulation.specs.Modulations.{configOf, configBytes, syncWord}
-use Rattle.info.specs.Info.{infoHead, infoBytes}
-use Rattle.rx.specs.Rx.{rxBytes}
-use Rattle.answer.specs.Answers.{configuredBytes, txDoneBytes, answerBytes}
-use Rattle.board.specs.Board.{Board, among, bitmap, sx1262, infoOf}
-use Rattle.board.specs.Params.{loraGood, paramsGood}
-use Rattle.board.specs.Ldro.{slow, ldro}
+use Rattle.cobs.specs.Encoding.{encoded}
+use Rattle.frame.specs.Body.{body}
+use Rattle.kind.specs.Kinds.{SET-CONFIG, TX, RX-START}
+use Rattle.board.specs.Board.{Board, sx1262}
 use Rattle.device.specs.State.{Packet, State, powerUp, link, inbox, deaf, open#}
 use Rattle.device.specs.State.{Event, byte, tick, clear, busy, sent, configured, fault, packet, request, disconnect, Input, Order, nothing, standby, configure, transmit}
-use Rattle.device.specs.Messages.{Message, ok, err, txDone, wire, wires, frameIn, EPARAM, ELENGTH, ENOTCONFIGURED, EMODULATION, EUNKNOWN-CMD, EBUSY, ERADIO, EFRAME, TRANSMITTED, CHANNEL-BUSY, CANCELLED}
-use Rattle.device.specs.Frames.{received, objection, settingOf}
-use Rattle.device.specs.Events.{listens, idle, refused, step, Reply}
-use Rattle.device.specs.Demands.{onward, after, history, answer}
-use Rattle.device.specs.Scripts.{lent, bytesIn, sends}
-
--- what all of it computes with: `unfolding computes` opens these
-computes : Unit {0}
-unfolding lay bit bits C.byte crcFrom crcOf cut encoded E.wire hasZero whole broken parts groups joined decoded le number signed unsigned covered body B.frame openBody openAnswer isCommand loraOf loraBytes configOf configBytes syncWord infoHead infoBytes rxBytes configuredBytes txDoneBytes answerBytes among bitmap sx1262 infoOf loraGood paramsGood slow ldro wire wires frameIn received objection listens idle step onward after history
-computes = tt
+use Rattle.device.specs.Messages.{Message, ok, err, txDone, wires, EPARAM, ELENGTH, ENOTCONFIGURED, EMODULATION, EUNKNOWN-CMD, EBUSY, ERADIO, EFRAME, TRANSMITTED, CHANNEL-BUSY, CANCELLED}
+use Rattle.device.specs.Frames.{objection, settingOf}
+use Rattle.device.specs.Events.{refused, step, Reply}
+use Rattle.device.specs.Demands.{history, answer}
+use Rattle.device.specs.Scripts.{lent, bytesIn, sends, lora, ready}
+use Rattle.device.proofs.Computing.{computes}
 
 -- ---- events and answers
 
@@ -60,14 +41,6 @@ commandAfter is kind t p = runAfter is (encoded (body kind t p))
 -- the answer that has taken an event: messages and an order
 abbrev gives : List Message → Order → Reply
 gives ms o = record { number = TAKEN; bytes = wires ms; order = o }
-
--- P C.2.3: the payload of its SET_CONFIG, with any SF and any byte of power; the events by which it configures the device
-abbrev params : ℕ → ℕ → List ℕ
-params sf power =
-    0x01 ∷ 0xA0 ∷ 0x27 ∷ 0xBE ∷ 0x33 ∷ sf ∷ 0x07 ∷ 0x00 ∷ 0x08 ∷ 0x00 ∷ 0x24 ∷ 0x14 ∷ power ∷ 0x00 ∷ 0x01 ∷ 0x00 ∷ []
-
-abbrev ready : List Input
-ready = sends SET-CONFIG 0x0003 (params 7 14) ++ (lent configured ∷ [])
 
 -- the payload of a TX with flags 0 and a packet of one byte (P C.3.1); with skip_cad
 abbrev letter : List ℕ
@@ -111,10 +84,10 @@ unfolding computes
 ticks = (refl, refl, refl)
 
 -- power 22 is taken and 23 is EPARAM; at the other end -9, which is the byte F7, and -10
-pub powers : (objection sx1262 powerUp SET-CONFIG (params 7 0x16) ≡ none)
-    × (objection sx1262 powerUp SET-CONFIG (params 7 0x17) ≡ some EPARAM)
-    × (objection sx1262 powerUp SET-CONFIG (params 7 0xF7) ≡ none)
-    × (objection sx1262 powerUp SET-CONFIG (params 7 0xF6) ≡ some EPARAM)
+pub powers : (objection sx1262 powerUp SET-CONFIG (lora 7 0x16) ≡ none)
+    × (objection sx1262 powerUp SET-CONFIG (lora 7 0x17) ≡ some EPARAM)
+    × (objection sx1262 powerUp SET-CONFIG (lora 7 0xF7) ≡ none)
+    × (objection sx1262 powerUp SET-CONFIG (lora 7 0xF6) ≡ some EPARAM)
 unfolding computes
 powers = (refl, refl, refl, refl)
 
@@ -149,7 +122,7 @@ pub receives :
     (eventAfter (hears (packets 50000000 1)) request .bytes
     ≡ 0x02 ∷ 0xC0 ∷ 0x01 ∷ 0x04 ∷ 0xCC ∷ 0xFC ∷ 0x50 ∷ 0x01 ∷ 0x01 ∷ 0x01 ∷ 0x01 ∷ 0x05 ∷ 0x80 ∷ 0xF0 ∷ 0xFA ∷ 0x02
     ∷ 0x01 ∷ 0x01 ∷ 0x01 ∷ 0x02 ∷ 0x01 ∷ 0x01 ∷ 0x01 ∷ 0x05 ∷ 0xAA ∷ 0xBB ∷ 0x54 ∷ 0xC0 ∷ 0x00 ∷ [])
-    × (stateAfter (hears (packets 50000000 1) ++ sends SET-CONFIG 0x000B (params 9 14)) .inbox ≡ deaf)
+    × (stateAfter (hears (packets 50000000 1) ++ sends SET-CONFIG 0x000B (lora 9 14)) .inbox ≡ deaf)
 unfolding computes
 receives = (refl, refl)
 
@@ -158,10 +131,10 @@ abbrev two : List Input
 two = ready ++ (sends TX 0x0014 letter ++ sends TX 0x0015 letter)
 
 pub cancels :
-    (commandAfter two SET-CONFIG 0x0016 (params 10 14) .bytes
+    (commandAfter two SET-CONFIG 0x0016 (lora 10 14) .bytes
     ≡ (0x03 ∷ 0xC1 ∷ 0x14 ∷ 0x02 ∷ 0x02 ∷ 0x01 ∷ 0x01 ∷ 0x01 ∷ 0x03 ∷ 0x82 ∷ 0xCF ∷ 0x00 ∷ [])
     ++ (0x03 ∷ 0xC1 ∷ 0x15 ∷ 0x02 ∷ 0x02 ∷ 0x01 ∷ 0x01 ∷ 0x01 ∷ 0x03 ∷ 0xE3 ∷ 0x77 ∷ 0x00 ∷ []))
-    × (eventAfter (two ++ sends SET-CONFIG 0x0016 (params 10 14)) configured .bytes
+    × (eventAfter (two ++ sends SET-CONFIG 0x0016 (lora 10 14)) configured .bytes
     ≡ 0x03 ∷ 0x80 ∷ 0x16 ∷ 0x01 ∷ 0x09 ∷ 0x01 ∷ 0x01 ∷ 0xA0 ∷ 0x27 ∷ 0xBE ∷ 0x33 ∷ 0x0A ∷ 0x07 ∷ 0x02 ∷ 0x08 ∷ 0x04
     ∷ 0x24 ∷ 0x14 ∷ 0x0E ∷ 0x02 ∷ 0x01 ∷ 0x03 ∷ 0x64 ∷ 0x32 ∷ 0x00 ∷ [])
 unfolding computes
@@ -172,12 +145,12 @@ abbrev onAirFirst : List Input
 onAirFirst = two ++ (lent clear ∷ [])
 
 abbrev waiting : List Input
-waiting = onAirFirst ++ sends SET-CONFIG 0x0016 (params 10 14)
+waiting = onAirFirst ++ sends SET-CONFIG 0x0016 (lora 10 14)
 
-pub waits : (commandAfter onAirFirst SET-CONFIG 0x0016 (params 10 14) ≡ gives [] nothing)
+pub waits : (commandAfter onAirFirst SET-CONFIG 0x0016 (lora 10 14) ≡ gives [] nothing)
     × (eventAfter waiting (byte 0x03) .number ≡ STALL)
     × (eventAfter waiting (sent 30976)
-    ≡ gives (txDone TRANSMITTED 30976 0x0014 ∷ txDone CANCELLED 0 0x0015 ∷ []) (configure (settingOf 0x0016 (params 10 14) .config) false))
+    ≡ gives (txDone TRANSMITTED 30976 0x0014 ∷ txDone CANCELLED 0 0x0015 ∷ []) (configure (settingOf 0x0016 (lora 10 14) .config) false))
 unfolding computes
 waits = (refl, refl, refl)
 
@@ -190,7 +163,7 @@ too-late = refl
 pub errors : (commandAfter ready TX 0x0029 (0x00 ∷ []) ≡ gives (err ELENGTH 0x0029 ∷ []) nothing)
     × (commandAfter ready 0x10 0x003C (0xDE ∷ 0xAD ∷ []) ≡ gives (err EUNKNOWN-CMD 0x003C ∷ []) nothing)
     × (commandAfter ready SET-CONFIG 0x0046 (0x01 ∷ replicate 10 0x00) ≡ gives (err ELENGTH 0x0046 ∷ []) nothing)
-    × (commandAfter ready SET-CONFIG 0x0047 (0x01 ∷ 0x80 ∷ 0x08 ∷ 0x08 ∷ 0x92 ∷ drop 5 (params 7 14)) ≡ gives (err EPARAM 0x0047 ∷ []) nothing)
+    × (commandAfter ready SET-CONFIG 0x0047 (0x01 ∷ 0x80 ∷ 0x08 ∷ 0x08 ∷ 0x92 ∷ drop 5 (lora 7 14)) ≡ gives (err EPARAM 0x0047 ∷ []) nothing)
     × (commandAfter ready SET-CONFIG 0x0048 (0x04 ∷ replicate 13 0x00) ≡ gives (err EMODULATION 0x0048 ∷ []) nothing)
 unfolding computes
 errors = (refl, refl, refl, refl, refl)
@@ -201,7 +174,7 @@ unfolding computes
 channel-busy = refl
 
 -- C.5.10: a fault while the radio is configured
-pub radio-fault : eventAfter (sends SET-CONFIG 0x0049 (params 7 14)) fault ≡ gives (err ERADIO 0x0049 ∷ []) standby
+pub radio-fault : eventAfter (sends SET-CONFIG 0x0049 (lora 7 14)) fault ≡ gives (err ERADIO 0x0049 ∷ []) standby
 unfolding computes
 radio-fault = refl
 
