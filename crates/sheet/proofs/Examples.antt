@@ -3,7 +3,7 @@
 -- Assumes nothing.
 use Prim.Native.Nat.{ℕ, zero, suc}
 use mathlib.Core.Path.{_≡_, refl}
-use mathlib.Core.Bool.{true, false}
+use mathlib.Core.Bool.{Bool, true, false}
 use mathlib.Core.List.{List, [], _∷_, _++_, map}
 use mathlib.Core.Option.{none, some}
 use lib.IntN.{pos, negsuc}
@@ -11,11 +11,11 @@ use lib.ListN.{replicate, drop}
 use Rattle.numbers.specs.Numbers.{TAKEN, ROOM, STALL}
 use Rattle.cobs.specs.Encoding.{encoded}
 use Rattle.frame.specs.Body.{body}
-use Rattle.kind.specs.Kinds.{SET-CONFIG, TX, RX-START}
+use Rattle.kind.specs.Kinds.{SET-CONFIG, TX, RX-START, RX-STOP}
 use Rattle.board.specs.Board.{Board, sx1262}
 use Rattle.device.specs.State.{Packet, State, powerUp, link, inbox, deaf, open#}
-use Rattle.device.specs.State.{Event, byte, tick, clear, busy, sent, configured, fault, packet, request, disconnect, Input, Order, nothing, standby, configure, transmit}
-use Rattle.device.specs.Messages.{Message, ok, err, txDone, wires, EPARAM, ELENGTH, ENOTCONFIGURED, EMODULATION, EUNKNOWN-CMD, EBUSY, ERADIO, EFRAME, TRANSMITTED, CHANNEL-BUSY, CANCELLED}
+use Rattle.device.specs.State.{Event, byte, tick, clear, busy, sent, configured, fault, packet, request, disconnect, Input, Order, nothing, standby, configure, transmit, receive}
+use Rattle.device.specs.Messages.{Message, ok, okConfigured, err, txDone, wire, wires, EPARAM, ELENGTH, ENOTCONFIGURED, EMODULATION, EUNKNOWN-CMD, EBUSY, ERADIO, EFRAME, TRANSMITTED, CHANNEL-BUSY, CANCELLED}
 use Rattle.device.specs.Frames.{objection, settingOf}
 use Rattle.device.specs.Events.{refused, step, Reply}
 use Rattle.device.specs.Demands.{history, answer}
@@ -168,6 +168,20 @@ pub errors : (commandAfter ready TX 0x0029 (0x00 ∷ []) ≡ gives (err ELENGTH 
 unfolding computes
 errors = (refl, refl, refl, refl, refl)
 
+-- C.5 and C.6.4: the bytes of an ERR with each code, and of a TX_DONE with the results 0 and 1
+pub codes :
+    (wire (err ELENGTH 0x0029) ≡ 0x03 ∷ 0x81 ∷ 0x29 ∷ 0x02 ∷ 0x02 ∷ 0x03 ∷ 0xD6 ∷ 0x3B ∷ 0x00 ∷ [])
+    × (wire (err EBUSY 0x002B) ≡ 0x03 ∷ 0x81 ∷ 0x2B ∷ 0x02 ∷ 0x06 ∷ 0x03 ∷ 0x7A ∷ 0x1A ∷ 0x00 ∷ [])
+    × (wire (err EUNKNOWN-CMD 0x003C) ≡ 0x03 ∷ 0x81 ∷ 0x3C ∷ 0x02 ∷ 0x05 ∷ 0x03 ∷ 0xA3 ∷ 0x05 ∷ 0x00 ∷ [])
+    × (wire (err EPARAM 0x0047) ≡ 0x03 ∷ 0x81 ∷ 0x47 ∷ 0x02 ∷ 0x01 ∷ 0x03 ∷ 0x0D ∷ 0x95 ∷ 0x00 ∷ [])
+    × (wire (err EMODULATION 0x0048) ≡ 0x03 ∷ 0x81 ∷ 0x48 ∷ 0x02 ∷ 0x04 ∷ 0x03 ∷ 0x16 ∷ 0xBE ∷ 0x00 ∷ [])
+    × (wire (err ERADIO 0x0049) ≡ 0x03 ∷ 0x81 ∷ 0x49 ∷ 0x05 ∷ 0x01 ∷ 0x01 ∷ 0x76 ∷ 0x27 ∷ 0x00 ∷ [])
+    × (wire (err EFRAME 0) ≡ 0x02 ∷ 0x81 ∷ 0x01 ∷ 0x05 ∷ 0x02 ∷ 0x01 ∷ 0xCE ∷ 0xEF ∷ 0x00 ∷ [])
+    × (wire (txDone TRANSMITTED 30976 0x0033) ≡ 0x03 ∷ 0xC1 ∷ 0x33 ∷ 0x01 ∷ 0x01 ∷ 0x02 ∷ 0x79 ∷ 0x01 ∷ 0x03 ∷ 0x2A ∷ 0xBA ∷ 0x00 ∷ [])
+    × (wire (txDone CHANNEL-BUSY 0 0x0032) ≡ 0x03 ∷ 0xC1 ∷ 0x32 ∷ 0x02 ∷ 0x01 ∷ 0x01 ∷ 0x01 ∷ 0x01 ∷ 0x03 ∷ 0x83 ∷ 0xEE ∷ 0x00 ∷ [])
+unfolding computes
+codes = (refl, refl, refl, refl, refl, refl, refl, refl, refl)
+
 -- C.5.5: the channel is busy
 pub channel-busy : eventAfter (ready ++ sends TX 0x0032 letter) busy ≡ gives (txDone CHANNEL-BUSY 0 0x0032 ∷ []) standby
 unfolding computes
@@ -185,11 +199,60 @@ pub damage : runAfter [] (0x05 ∷ []) ≡ gives (err EFRAME 0 ∷ []) nothing
 unfolding computes
 damage = refl
 
--- an orphan: no order at the session's end, and nothing written when it has been sent
+-- SET_CONFIG: the order to configure has the parameters and LDRO; when it is done there is no order
+pub configures : (commandAfter [] SET-CONFIG 0x0003 (lora 12 14) ≡ gives [] (configure (settingOf 0x0003 (lora 12 14) .config) true))
+    × (eventAfter (sends SET-CONFIG 0x0003 (lora 7 14)) configured ≡ gives (okConfigured (settingOf 0x0003 (lora 7 14)) ∷ []) nothing)
+unfolding computes
+configures = (refl, refl)
+
+-- RX_START and RX_STOP: an order for a change, if the radio is free; else it comes after the TX
+abbrev listens : List Input
+listens = ready ++ sends RX-START 0x000A []
+
+pub turns : (commandAfter ready RX-START 0x000A [] ≡ gives (ok 0x000A ∷ []) receive)
+    × (commandAfter listens RX-START 0x000B [] ≡ gives (ok 0x000B ∷ []) nothing)
+    × (commandAfter listens RX-STOP 0x000B [] ≡ gives (ok 0x000B ∷ []) standby)
+    × (commandAfter (ready ++ sends TX 0x0005 urgent) RX-START 0x000A [] ≡ gives (ok 0x000A ∷ []) nothing)
+    × (eventAfter (listens ++ sends TX 0x0005 urgent) (sent 33792) ≡ gives (txDone TRANSMITTED 33792 0x0005 ∷ []) receive)
+unfolding computes
+turns = (refl, refl, refl, refl, refl)
+
+-- a packet of 255 bytes stays as it is, and a longer one is cut
+abbrev long : ℕ → Bool → Packet
+long n valid = record { rssi = pos 0; snr = pos 0; freq-err = pos 0; time = 0; crc-valid = valid; bytes = replicate n 0xAA }
+
+pub cut : (stateAfter (hears (long 255 true ∷ [])) .inbox .ring ≡ long 255 true ∷ [])
+    × (stateAfter (hears (long 256 true ∷ [])) .inbox .ring ≡ long 255 false ∷ [])
+unfolding computes
+cut = (refl, refl)
+
+-- a fault: on air, with one that waits; with a free radio; with neither session nor TX
+pub faults : (eventAfter (ready ++ (sends TX 0x0005 urgent ++ sends TX 0x0006 urgent)) fault
+    ≡ gives (err ERADIO 0 ∷ txDone CANCELLED 0 0x0005 ∷ []) (transmit (0x41 ∷ []) false))
+    × (eventAfter listens fault ≡ gives (err ERADIO 0 ∷ []) receive)
+    × (eventAfter [] fault ≡ gives [] standby)
+unfolding computes
+faults = (refl, refl, refl)
+
+-- a session's end while the radio listens, is configured, or with none open
+pub ends : (eventAfter (ready ++ sends TX 0x0004 letter) disconnect ≡ gives [] standby)
+    × (eventAfter (sends SET-CONFIG 0x0003 (lora 7 14)) disconnect ≡ gives [] nothing)
+    × (eventAfter (sends SET-CONFIG 0x0003 (lora 7 14) ++ (lent disconnect ∷ [])) configured ≡ gives [] standby)
+    × (eventAfter (sends SET-CONFIG 0x0003 (lora 7 14) ++ (lent disconnect ∷ [])) (byte 0x03) .number ≡ STALL)
+    × (eventAfter [] disconnect ≡ gives [] nothing)
+unfolding computes
+ends = (refl, refl, refl, refl, refl)
+
+-- an orphan: no order at the session's end, and nothing written when it has been sent; a SET_CONFIG of the next session waits for it
 abbrev alone : List Input
 alone = ready ++ sends TX 0x0005 urgent
 
+abbrev orphaned : List Input
+orphaned = alone ++ (lent disconnect ∷ [])
+
 pub orphans : (eventAfter alone disconnect ≡ gives [] nothing)
-    × (eventAfter (alone ++ (lent disconnect ∷ [])) (sent 33792) ≡ gives [] standby)
+    × (eventAfter orphaned (sent 33792) ≡ gives [] standby)
+    × (commandAfter orphaned SET-CONFIG 0x0016 (lora 10 14) ≡ gives [] nothing)
+    × (eventAfter (orphaned ++ sends SET-CONFIG 0x0016 (lora 10 14)) (sent 33792) ≡ gives [] (configure (settingOf 0x0016 (lora 10 14) .config) false))
 unfolding computes
-orphans = (refl, refl)
+orphans = (refl, refl, refl, refl)
