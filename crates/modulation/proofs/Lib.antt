@@ -1,4 +1,3 @@
-mod Bytes
 mod Rows
 pub mod Laws
 pub mod Examples

@@ -28,37 +28,37 @@ add-first c = omega arith
 
 add-r : tie.Need-add-r Inv-loop μ-loop
 add-r c =
-    let b = bounds (c .before .before .loop .inv) (omega arith) in
+    let b = bounds (c .before .before .loop .inv) (c .before .loop-test .taken) in
     omega arith
 
 sub-copy : tie.Need-sub-copy Inv-loop μ-loop
 sub-copy c =
-    let b = bounds (c .before .before .loop .inv) (omega arith) in
+    let b = bounds (c .before .before .loop .inv) (c .before .loop-test .taken) in
     omega arith
 
 part-copy-start : tie.Need-part-copy-start Inv-loop μ-loop
 part-copy-start c =
-    let b = bounds (c .before .before .loop .inv) (omega arith) in
+    let b = bounds (c .before .before .loop .inv) (c .before .loop-test .taken) in
     omega arith
 
 part-copy-end : tie.Need-part-copy-end Inv-loop μ-loop
 part-copy-end c =
-    let b = bounds (c .before .before .loop .inv) (omega arith) in
+    let b = bounds (c .before .before .loop .inv) (c .before .loop-test .taken) in
     omega arith
 
 copy-requires : tie.Need-copy-requires Inv-loop μ-loop
 copy-requires c κs =
-    let b = bounds (c .before .before .before .before .loop .inv) (omega arith) in
+    let b = bounds (c .before .before .before .before .loop .inv) (c .before .before .before .loop-test .taken) in
     omega arith
 
 sub-w : tie.Need-sub-w Inv-loop μ-loop
 sub-w c =
-    let b = bounds (c .before .before .before .before .before .before .before .loop .inv) (omega arith) in
+    let b = bounds (c .before .before .before .before .before .before .before .loop .inv) (c .before .before .before .before .before .before .loop-test .taken) in
     omega arith
 
 add-w : tie.Need-add-w Inv-loop μ-loop
 add-w c =
-    let b = bounds (c .before .before .before .before .before .before .before .loop .inv) (omega arith) in
+    let b = bounds (c .before .before .before .before .before .before .before .loop .inv) (c .before .before .before .before .before .before .loop-test .taken) in
     omega arith
 
 add-if1 : tie.Need-add-if1 Inv-loop μ-loop
@@ -67,42 +67,42 @@ add-if1 c = omega arith
 slice-write-dst : tie.Need-slice-write-dst Inv-loop μ-loop
 slice-write-dst c =
     rw (c .before .before .before .before .copy .ensures)
-    (zero-fits (c .before .before .before .before .before .before .before .before .before .loop .inv) (omega arith) (c .before .if1 .taken) (c .if2 .taken))
+    (zero-fits (c .before .before .before .before .before .before .before .before .before .loop .inv) (c .before .before .before .before .before .before .before .before .loop-test .taken) (c .before .if1 .taken) (c .if2 .taken))
 
 add-w-2 : tie.Need-add-w-2 Inv-loop μ-loop
 add-w-2 c =
-    let b = bounds (c .before .before .before .before .before .before .before .before .before .loop .inv) (omega arith) in
+    let b = bounds (c .before .before .before .before .before .before .before .before .before .loop .inv) (c .before .before .before .before .before .before .before .before .loop-test .taken) in
     omega arith
 
 loop-less : tie.Need-loop-less Inv-loop μ-loop
 loop-less c =
-    let b = bounds (c .before .before .before .before .before .before .before .before .before .loop .inv) (omega arith) in
+    let b = bounds (c .before .before .before .before .before .before .before .before .before .loop .inv) (c .before .before .before .before .before .before .before .before .loop-test .taken) in
     omega arith
 
 loop-again : tie.Need-loop-again Inv-loop μ-loop
 loop-again c =
     rw (c .before .before .before .before .copy .ensures)
-    (turn-zero (c .before .before .before .before .before .before .before .before .before .loop .inv) (omega arith) (c .before .if1 .taken) (c .if2 .taken))
+    (turn-zero (c .before .before .before .before .before .before .before .before .before .loop .inv) (c .before .before .before .before .before .before .before .before .loop-test .taken) (c .before .if1 .taken) (c .if2 .taken))
 
 loop-less-2 : tie.Need-loop-less-2 Inv-loop μ-loop
 loop-less-2 c =
-    let b = bounds (c .before .before .before .before .before .before .before .before .before .loop .inv) (omega arith) in
+    let b = bounds (c .before .before .before .before .before .before .before .before .before .loop .inv) (c .before .before .before .before .before .before .before .before .loop-test .taken) in
     omega arith
 
 loop-again-2 : tie.Need-loop-again-2 Inv-loop μ-loop
 loop-again-2 c =
     rw (c .before .before .before .before .copy .ensures)
-    (turn-last (c .before .before .before .before .before .before .before .before .before .loop .inv) (omega arith) (c .if2 .left))
+    (turn-last (c .before .before .before .before .before .before .before .before .before .loop .inv) (c .before .before .before .before .before .before .before .before .loop-test .taken) (c .if2 .left))
 
 loop-less-3 : tie.Need-loop-less-3 Inv-loop μ-loop
 loop-less-3 c =
-    let b = bounds (c .before .before .before .before .before .before .before .before .loop .inv) (omega arith) in
+    let b = bounds (c .before .before .before .before .before .before .before .before .loop .inv) (c .before .before .before .before .before .before .before .loop-test .taken) in
     omega arith
 
 loop-again-3 : tie.Need-loop-again-3 Inv-loop μ-loop
 loop-again-3 c =
     rw (c .before .before .before .copy .ensures)
-    (turn-full (c .before .before .before .before .before .before .before .before .loop .inv) (omega arith) (c .if1 .left))
+    (turn-full (c .before .before .before .before .before .before .before .before .loop .inv) (c .before .before .before .before .before .before .before .loop-test .taken) (c .if1 .left))
 
 same-length : tie.Need-same-length Inv-loop μ-loop
 same-length c = c .before .loop .inv .laying .long

@@ -1,7 +1,9 @@
 -- Each answer is where the chain of tests in its definition ends.
 -- Assumes nothing.
+use mathlib.Core.Path.{ap}
 use borrow.Author.Tests.{lt-ltb, le-ltb}
 use Rattle.cobs.specs.Answers.{encodeAnswer, encodeLeft}
+use Rattle.cobs.specs.declared.Encoded.the-variants as E
 use borrow.Author.Needs.{needs}
 use Rattle.cobs.proofs.encode.Statement.{statement}
 use Rattle.cobs.proofs.encode.Tie as tie
@@ -33,7 +35,7 @@ unfolding encodeAnswer encodeLeft
 returns-3 c =
     let e = le-ltb _ _ (c .before .before .before .before .before .before .if1 .left) in
     let f = le-ltb _ _ (rw (c .before .before .before .before .before .worst .ensures) at (c .before .before .before .before .if2 .left)) in
-    (simp (e, f) (cc), simp (e, f) (c .before .before .encode-into .ensures .1))
+    (simp (e, f) (ap E.Done (c .before .before .encode-into .ensures .0)), simp (e, f) (c .before .before .encode-into .ensures .1))
 
 pub encode-spec : {M : Type 1} → statement M
 encode-spec =

@@ -1,6 +1,6 @@
 -- The check value from here on stays the check value of the whole.
 -- Assumes nothing.
-use mathlib.Core.Path.{_≡_}
+use mathlib.Core.Path.{_≡_, sym, _∙_}
 use Prim.Native.Nat.{_≤_, _-_}
 use native.Mathlib.Omega.{arith}
 use borrow.Author.Needs.{needs}
@@ -36,12 +36,12 @@ loop-again : tie.Need-loop-again Inv-loop μ-loop
 loop-again c =
     let l = c .before .before .before .loop in
     let src = c .before .before .before .before .before .args .src .now in
-    (omega arith, cc (crc-more (l .c) (l .i) src (omega arith)))
+    (omega arith, rw (c .step .ensures) (sym (crc-more (l .c) (l .i) src (c .before .before .loop-test .taken)) ∙ l .inv .1))
 
 returns : tie.Need-returns Inv-loop μ-loop
 returns c =
     let l = c .before .loop in
-    cc (crc-done (l .c) (l .i) (c .before .before .before .args .src .now) (omega arith))
+    sym (crc-done (l .c) (l .i) (c .before .before .before .args .src .now) (c .loop-test .left)) ∙ l .inv .1
 
 pub crc16-spec : {M : Type 1} → statement M
 crc16-spec =

@@ -1,10 +1,14 @@
--- What the calls promised; a byte modulo 256 is itself, and the rest computes.
+-- What the calls promised; a byte modulo 256 is itself, and the rest computes. Byte by byte, since `rw` would compute all the bytes at every step.
 -- Assumes nothing.
+use mathlib.Core.Path.{sym}
+use mathlib.Core.List.{[], _∷_}
+use native.Mathlib.Nat.{mod-eq-of-lt}
 use native.Mathlib.Omega.{arith}
+use lib.ListN.{getD}
 use Rattle.buffer.specs.Lay.{lay}
 use Rattle.scalar.specs.Scalars.{le}
 use Rattle.modulation.specs.Fsk.{fskBytes}
-use Rattle.modulation.proofs.Bytes.{byte}
+use Rattle.modulation.specs.Ranges.{FskIn}
 use borrow.Author.Needs.{needs}
 use Rattle.modulation.proofs.fsk_bytes.Statement.{statement}
 use Rattle.modulation.proofs.fsk_bytes.Tie as tie
@@ -67,15 +71,19 @@ returns : tie.Need-returns
 unfolding fskBytes lay le
 returns c =
     let s = c .before .before .before .before in
-    let m = s .args .m in
-    rw (
-      c .before .before .before .bytes-of-u32 .ensures,
-      c .before .before .bytes-of-u322 .ensures,
-      c .before .bytes-of-u323 .ensures,
-      c .bytes-of-u16 .ensures,
-      byte (m .«rx_bw») (omega (arith, s .good)),
-      byte (m .«sync_word_len») (omega (arith, s .good)),
-    )
+    let r : FskIn (s .args .m) = omega (arith, s .good) in
+    let freq = c .before .before .before .bytes-of-u32 .ensures in
+    let bitrate = c .before .before .bytes-of-u322 .ensures in
+    let deviation = c .before .bytes-of-u323 .ensures in
+    let preamble = c .bytes-of-u16 .ensures in
+    λ i.
+    getD (freq i) 0 0 ∷ getD (freq i) 1 0 ∷ getD (freq i) 2 0 ∷ getD (freq i) 3 0
+    ∷ getD (bitrate i) 0 0 ∷ getD (bitrate i) 1 0 ∷ getD (bitrate i) 2 0 ∷ getD (bitrate i) 3 0
+    ∷ getD (deviation i) 0 0 ∷ getD (deviation i) 1 0 ∷ getD (deviation i) 2 0 ∷ getD (deviation i) 3 0
+    ∷ sym (mod-eq-of-lt (r .«rx_bw»)) i
+    ∷ getD (preamble i) 0 0 ∷ getD (preamble i) 1 0
+    ∷ sym (mod-eq-of-lt (r .«sync_word_len»)) i
+    ∷ []
 
 pub fsk-bytes-spec : {M : Type 1} → statement M
 fsk-bytes-spec =

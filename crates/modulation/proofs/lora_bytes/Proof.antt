@@ -1,13 +1,17 @@
--- What the calls promised; a byte modulo 256 is itself, and the rest computes.
+-- What the calls promised; a byte modulo 256 is itself, and the rest computes. Byte by byte, since `rw` would compute all the bytes at every step.
 -- Assumes nothing.
-use mathlib.Core.Path.{_≡_, ap, _∙_}
+use mathlib.Core.Path.{sym, ap, _∙_}
+use mathlib.Core.List.{[], _∷_}
+use native.Mathlib.Nat.{mod-eq-of-lt}
 use native.Mathlib.Omega.{arith}
+use lib.ListN.{getD}
 use mir.Facts.{toZ-ofZ}
 use mir.Syntax.{w8}
 use Rattle.buffer.specs.Lay.{lay}
 use Rattle.scalar.specs.Scalars.{le, i8, unsigned}
+use Rattle.scalar.proofs.Laws.{unsigned-below}
 use Rattle.modulation.specs.Lora.{loraBytes}
-use Rattle.modulation.proofs.Bytes.{byte}
+use Rattle.modulation.specs.Ranges.{LoraIn}
 use borrow.Author.Needs.{needs}
 use Rattle.modulation.proofs.lora_bytes.Statement.{statement}
 use Rattle.modulation.proofs.lora_bytes.Tie as tie
@@ -52,21 +56,23 @@ returns : tie.Need-returns
 unfolding loraBytes lay le
 returns c =
     let s = c .before .before .before .before .before in
-    let m = s .args .m in
-    let power : c .u8-of .result ≡ unsigned i8 (m .«tx_power_dbm») = c .u8-of .ensures ∙ ap (unsigned i8) (toZ-ofZ {w = w8} record { sfits = omega (arith, s .good) }) in
-    rw (
-      c .before .before .before .before .bytes-of-u32 .ensures,
-      c .before .before .before .bytes-of-u16 .ensures,
-      c .before .before .bytes-of-u162 .ensures,
-      ← power,
-      byte (m .sf) (omega (arith, s .good)),
-      byte (m .bw) (omega (arith, s .good)),
-      byte (m .cr) (omega (arith, s .good)),
-      byte (c .u8-of .result) (omega (arith, c .u8-of .ok)),
-      byte (m .«header_mode») (omega (arith, s .good)),
-      byte (m .«payload_crc») (omega (arith, s .good)),
-      byte (m .«iq_invert») (omega (arith, s .good)),
-    )
+    let r : LoraIn (s .args .m) = omega (arith, s .good) in
+    let freq = c .before .before .before .before .bytes-of-u32 .ensures in
+    let preamble = c .before .before .before .bytes-of-u16 .ensures in
+    let word = c .before .before .bytes-of-u162 .ensures in
+    let power = c .u8-of .ensures ∙ ap (unsigned i8) (toZ-ofZ {w = w8} record { sfits = r .«tx_power_dbm» }) ∙ sym (mod-eq-of-lt (unsigned-below i8 _ (r .«tx_power_dbm»))) in
+    λ i.
+    getD (freq i) 0 0 ∷ getD (freq i) 1 0 ∷ getD (freq i) 2 0 ∷ getD (freq i) 3 0
+    ∷ sym (mod-eq-of-lt (r .sf)) i
+    ∷ sym (mod-eq-of-lt (r .bw)) i
+    ∷ sym (mod-eq-of-lt (r .cr)) i
+    ∷ getD (preamble i) 0 0 ∷ getD (preamble i) 1 0
+    ∷ getD (word i) 0 0 ∷ getD (word i) 1 0
+    ∷ power i
+    ∷ sym (mod-eq-of-lt (r .«header_mode»)) i
+    ∷ sym (mod-eq-of-lt (r .«payload_crc»)) i
+    ∷ sym (mod-eq-of-lt (r .«iq_invert»)) i
+    ∷ []
 
 pub lora-bytes-spec : {M : Type 1} → statement M
 lora-bytes-spec =
