@@ -11,11 +11,13 @@ use lib.ListN.{replicate, drop}
 use Rattle.numbers.specs.Numbers.{TAKEN, ROOM, STALL}
 use Rattle.cobs.specs.Encoding.{encoded}
 use Rattle.frame.specs.Body.{body}
-use Rattle.kind.specs.Kinds.{SET-CONFIG, TX, RX-START, RX-STOP}
+use Rattle.kind.specs.Kinds.{PING, GET-INFO, SET-CONFIG, TX, RX-START, RX-STOP}
+use Rattle.modulation.specs.Fsk.{fskOf, fskBytes}
 use Rattle.board.specs.Board.{Board, sx1262}
+use Rattle.board.specs.Params.{fskGood}
 use Rattle.device.specs.State.{Packet, State, powerUp, link, inbox, deaf, open#}
 use Rattle.device.specs.State.{Event, byte, tick, clear, busy, sent, configured, fault, packet, request, disconnect, Input, Order, nothing, standby, configure, transmit, receive}
-use Rattle.device.specs.Messages.{Message, ok, okConfigured, err, txDone, wire, wires, EPARAM, ELENGTH, ENOTCONFIGURED, EMODULATION, EUNKNOWN-CMD, EBUSY, ERADIO, EFRAME, TRANSMITTED, CHANNEL-BUSY, CANCELLED}
+use Rattle.device.specs.Messages.{Message, ok, okInfo, okConfigured, err, txDone, wire, wires, EPARAM, ELENGTH, ENOTCONFIGURED, EMODULATION, EUNKNOWN-CMD, EBUSY, ERADIO, EFRAME, TRANSMITTED, CHANNEL-BUSY, CANCELLED}
 use Rattle.device.specs.Frames.{objection, settingOf}
 use Rattle.device.specs.Events.{refused, step, Reply}
 use Rattle.device.specs.Demands.{history, answer}
@@ -198,6 +200,47 @@ radio-fault = refl
 pub damage : runAfter [] (0x05 ∷ []) ≡ gives (err EFRAME 0 ∷ []) nothing
 unfolding computes
 damage = refl
+
+-- a tag of zero is damage on a type that is none of the six, too
+pub untagged : commandAfter [] 0x10 0 [] ≡ gives (err EFRAME 0 ∷ []) nothing
+unfolding computes
+untagged = refl
+
+-- a run of 283 bytes is silent up to its zero, and then damaged; an empty one is nothing; a disconnect with no session empties the run
+pub runs : (eventAfter (bytesIn (replicate 282 0x01)) (byte 0x01) ≡ gives [] nothing)
+    × (runAfter [] (replicate 283 0x01) ≡ gives (err EFRAME 0 ∷ []) nothing)
+    × (stateAfter (bytesIn (0x00 ∷ [])) ≡ powerUp)
+    × (stateAfter (bytesIn (0x03 ∷ []) ++ (lent disconnect ∷ [])) ≡ powerUp)
+unfolding computes
+runs = (refl, refl, refl, refl)
+
+-- the order of the steps: 3 before 5, 5 before 4 where SET_CONFIG is empty, 6 before 7
+pub steps : (commandAfter [] TX 0x0029 [] ≡ gives (err ENOTCONFIGURED 0x0029 ∷ []) nothing)
+    × (commandAfter [] SET-CONFIG 0x0046 [] ≡ gives (err ELENGTH 0x0046 ∷ []) nothing)
+    × (commandAfter (ready ++ txs 16) TX 0x002B (0x02 ∷ 0x41 ∷ []) ≡ gives (err EPARAM 0x002B ∷ []) nothing)
+unfolding computes
+steps = (refl, refl, refl)
+
+-- PING and GET_INFO order nothing, and are answered in every state
+pub asks : (commandAfter ready PING 0x0001 [] ≡ gives (ok 0x0001 ∷ []) nothing)
+    × (commandAfter ready GET-INFO 0x0002 [] ≡ gives (okInfo sx1262 0x0002 ∷ []) nothing)
+unfolding computes
+asks = (refl, refl)
+
+-- clear orders nothing; under FSK no TX listens
+abbrev fsk : List ℕ
+fsk = 0x02 ∷ 0xA0 ∷ 0x27 ∷ 0xBE ∷ 0x33 ∷ replicate 12 0x00
+
+pub channels : (eventAfter (ready ++ sends TX 0x0004 letter) clear ≡ gives [] nothing)
+    × (commandAfter (sends SET-CONFIG 0x0003 fsk ++ (lent configured ∷ [])) TX 0x0004 letter ≡ gives (ok 0x0004 ∷ []) (transmit (0x41 ∷ []) false))
+unfolding computes fskOf fskBytes fskGood
+channels = (refl, refl)
+
+-- a fault while the radio is configured leaves the device UNCONFIGURED
+pub unconfigures : commandAfter (ready ++ (sends SET-CONFIG 0x0049 (lora 7 14) ++ (lent fault ∷ []))) TX 0x0004 letter
+    ≡ gives (err ENOTCONFIGURED 0x0004 ∷ []) nothing
+unfolding computes
+unconfigures = refl
 
 -- SET_CONFIG: the order to configure has the parameters and LDRO; when it is done there is no order
 pub configures : (commandAfter [] SET-CONFIG 0x0003 (lora 12 14) ≡ gives [] (configure (settingOf 0x0003 (lora 12 14) .config) true))
