@@ -10,6 +10,7 @@ use lib.IntN.{pos, negsuc}
 use lib.ListN.{replicate, drop}
 use Rattle.numbers.specs.Numbers.{TAKEN, ROOM, STALL}
 use Rattle.cobs.specs.Encoding.{encoded}
+use Rattle.scalar.specs.Scalars.{column, put}
 use Rattle.frame.specs.Body.{body}
 use Rattle.kind.specs.Kinds.{PING, GET-INFO, SET-CONFIG, TX, RX-START, RX-STOP}
 use Rattle.modulation.specs.Fsk.{fskOf, fskBytes}
@@ -92,6 +93,28 @@ pub powers : (objection sx1262 powerUp SET-CONFIG (lora 7 0x16) ≡ none)
     × (objection sx1262 powerUp SET-CONFIG (lora 7 0xF6) ≡ some EPARAM)
 unfolding computes
 powers = (refl, refl, refl, refl)
+
+-- the board's frequencies have both ends; cr, header, crc and iq at their ends: each as the byte that is changed in C.2.3's payload
+pub params :
+    (objection sx1262 powerUp SET-CONFIG (0x01 ∷ 0x80 ∷ 0xD1 ∷ 0xF0 ∷ 0x08 ∷ drop 5 (lora 7 14)) ≡ none)
+    × (objection sx1262 powerUp SET-CONFIG (0x01 ∷ 0x00 ∷ 0x70 ∷ 0x38 ∷ 0x39 ∷ drop 5 (lora 7 14)) ≡ none)
+    × (objection sx1262 powerUp SET-CONFIG (0x01 ∷ 0x01 ∷ 0x70 ∷ 0x38 ∷ 0x39 ∷ drop 5 (lora 7 14)) ≡ some EPARAM)
+    × (objection sx1262 powerUp SET-CONFIG (put (column 7 1) 3 (lora 7 14)) ≡ none)
+    × (objection sx1262 powerUp SET-CONFIG (put (column 7 1) 4 (lora 7 14)) ≡ some EPARAM)
+    × (objection sx1262 powerUp SET-CONFIG (put (column 13 1) 2 (lora 7 14)) ≡ some EPARAM)
+    × (objection sx1262 powerUp SET-CONFIG (put (column 14 1) 2 (lora 7 14)) ≡ some EPARAM)
+    × (objection sx1262 powerUp SET-CONFIG (put (column 15 1) 1 (lora 7 14)) ≡ some EPARAM)
+unfolding computes
+params = (refl, refl, refl, refl, refl, refl, refl, refl)
+
+-- RX_STOP needs a configuration; a PING has no payload; a TX has at most 255 bytes
+pub sizes :
+    (objection sx1262 powerUp RX-STOP [] ≡ some ENOTCONFIGURED)
+    × (objection sx1262 powerUp PING (0x00 ∷ []) ≡ some ELENGTH)
+    × (objection sx1262 (stateAfter ready) TX (0x00 ∷ replicate 255 0x41) ≡ none)
+    × (objection sx1262 (stateAfter ready) TX (0x00 ∷ replicate 256 0x41) ≡ some ELENGTH)
+unfolding computes
+sizes = (refl, refl, refl, refl)
 
 -- an output of 282 bytes is ROOM, and 283 are enough
 pub room : ((b : Board) (s : State) (e : Event) → step b s (record { room = 282; event = e }) ≡ refused ROOM s)
