@@ -1,5 +1,5 @@
--- Demand 3 and the drop count on single histories, by computing. They follow from the theorems; here the wrong devices of must-fail/ are seen to break what is
--- demanded, and not only its proof.
+-- Demand 3 and the drop count on single histories, by computing. They follow from the theorems; here the wrong devices of must-fail/ that break one of the two are
+-- seen to break what is demanded, and not only its proof.
 -- Assumes nothing.
 use Prim.Native.Nat.{ℕ, zero, suc}
 use mathlib.Core.Path.{_≡_, refl}
@@ -64,7 +64,7 @@ pub tx-sent : Reports two (sent 33792) (20 ∷ [])
 unfolding computes
 tx-sent = (refl, refl)
 
--- a fault while a SET_CONFIG waits, and then a second without a frame
+-- a fault while a SET_CONFIG waits, and then 1000 ticks
 abbrev faulted : List Input
 faulted = two ++ (sends SET-CONFIG 22 (lora 7 14) ++ (lent fault ∷ replicate 1000 (lent tick)))
 
@@ -72,7 +72,7 @@ pub fault-and-silence : Places faulted (was-reported 20 ∷ was-reported 21 ∷ 
 unfolding computes
 fault-and-silence = (refl, refl)
 
--- a second without a frame while a TX is on air
+-- 1000 ticks while a TX is on air
 pub silence : Places (ready ++ (tx 20 ++ replicate 1000 (lent tick))) (was-dropped 20 ∷ []) []
 unfolding computes
 silence = (refl, refl)

@@ -133,8 +133,8 @@ history b is = after b begins is
 abbrev pub seen : Message → Frame
 seen m = frame (answerKind (m .answer)) (m .tag) (payload m)
 
--- The writer of answers (crate message) takes it, wherever an event's output is, and writes just these bytes; and the host's reader, with any command named that
--- the answer may have, takes the frame, and has the same answer with the same bytes.
+-- The writer of answers (crate message) takes it into any memory that an event may be lent, and writes just these bytes; and the host's reader, with any command
+-- named that the answer may have, takes the frame, and has the same answer with the same bytes.
 pub record Back (m : Message) : Type 0 where
   pub written : (room : ℕ) → 283 ≤ room → writeAnswer (K.Answers (answerName (m .answer))) (answerKind (m .answer)) (m .tag) (payload m) room ≡ W.Done (length (wire m))
   pub left : (d : List ℕ) → 283 ≤ length d → writeLeft (K.Answers (answerName (m .answer))) (answerKind (m .answer)) (m .tag) (payload m) d ≡ lay 0 (wire m) d

@@ -117,7 +117,7 @@ onSent airtime (configuring c) s = refused PLACE s
 
 -- ---- SET_CONFIG taken
 
--- Its OK is withheld. Unless something is on air, an orphan too, every open TX is reported with 2, the oldest first, and the radio is configured; else it waits.
+-- Its OK comes later. With a TX or an orphan on air it waits. Otherwise every open TX is reported with 2, the oldest first, and the radio is configured.
 -- While the radio is being configured no byte is taken, so none comes then.
 abbrev pub onSet : Setting → Radio → State → Out
 onSet c free s = begin c (cancelled (tagsOf (s .air .waiting))) s

@@ -26,7 +26,8 @@ pub record Tx : Type 0 where
   pub flags : ℕ
   pub packet : List ℕ
 
--- The radio: free; listening for a clear channel with one TX; on air with one TX, or with an orphan; or being configured. Of a TX only the tag is still needed.
+-- What the radio does: nothing; it waits for a clear channel, to send a TX; it sends one; it sends one whose session has ended, the orphan; it is being configured.
+-- Of a TX only the tag is still needed.
 pub data Radio : Type 0 where
   free : Radio
   listening : ℕ → Radio
