@@ -14,12 +14,12 @@ use borrow.Author.Tests.{leb-true, leb-false}
 use Rattle.scalar.specs.Bytes.{Each}
 use Rattle.board.specs.Board.{Board}
 use Rattle.device.specs.State.{Radio, free, listening, onAir, orphan, configuring, Event, Input, held, tagsOf, open#}
-use Rattle.device.specs.Messages.{Message, wires}
+use Rattle.device.specs.Messages.{Message, wires, seen}
 use Rattle.device.specs.Events.{Out, step, reply}
 use Rattle.device.specs.Tally.{Entry, entry, waits, open?, Tally, tallied, dones, reportedTags, newlyReported}
 use Rattle.device.specs.Lost.{losing}
 use Rattle.device.specs.Ranges.{InputIn, BoardIn}
-use Rattle.device.specs.Demands.{Demand2Wire, Demand3, InTime, DropCount, dropCounts, History, onward, after, history, seen, Closed, was-reported, was-dropped, closed, opens, outcomes, placeOf}
+use Rattle.device.specs.Demands.{Demand2Wire, Demand3, InTime, DropCount, dropCounts, History, onward, after, history, Closed, was-reported, was-dropped, closed, opens, outcomes, placeOf}
 use Rattle.device.proofs.Laws.{atRadio, inQueue, reportedOf, dones-append}
 use Rattle.device.proofs.Wires.{AllSendable, sendable-append, wires-append, read-all}
 use Rattle.device.proofs.Back.{all-back}

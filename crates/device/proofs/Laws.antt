@@ -7,9 +7,9 @@ use Prim.Native.Nat.{ℕ, _+_}
 use lib.ListN.{length, length-append}
 use Rattle.kind.specs.Kinds.{ERR}
 use Rattle.device.specs.State.{Tx, tagsOf}
-use Rattle.device.specs.Messages.{Message, cancelled}
+use Rattle.device.specs.Messages.{Message, cancelled, seen}
 use Rattle.device.specs.Tally.{Entry, entry, reported, dropped, withRadio, waits, openTo, radioReported, started, wrote, dones, newlyReported}
-use Rattle.device.specs.Demands.{seen, Closed, was-reported, was-dropped, closed}
+use Rattle.device.specs.Demands.{Closed, was-reported, was-dropped, closed}
 
 -- the entries of TX with the radio, and of TX that wait, by their tags
 abbrev pub atRadio : List ℕ → List Entry

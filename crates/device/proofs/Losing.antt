@@ -20,12 +20,12 @@ use Rattle.answer.specs.Answers.{answerKind, answerBytes}
 use Rattle.board.specs.Board.{Board, ringMax}
 use Rattle.device.specs.State.{Config, Setting, Tx, Radio, free, listening, onAir, orphan, configuring, Packet, Inbox, Air, State, link, air, inbox, state, withLink, withInbox, deaf, powerUp, tagsOf, free?, waits?, runs?, stalled}
 use Rattle.device.specs.State.{Event, byte, tick, clear, busy, sent, configured, fault, packet, request, disconnect, Input, Order, nothing}
-use Rattle.device.specs.Messages.{Frame, frame, Message, ok, okInfo, err, txDone, rxValue, cancelled, CANCELLED, ERADIO, EFRAME}
+use Rattle.device.specs.Messages.{Frame, frame, Message, ok, okInfo, err, txDone, rxValue, cancelled, CANCELLED, ERADIO, EFRAME, seen}
 use Rattle.device.specs.Frames.{Received, damaged, command, received, objection, settingOf, txOf}
 use Rattle.device.specs.Events.{Out, taken, refused, listens, next, says, onTx, onSet, unless, onReceived, onRun, onByte, unlessStalled, onClear, onBusy, onSent, inForce, onConfigured, heard, onFault, cut, kept, dropsMax, onPacket, onRequest, endSession, onTick, onDisconnect, onEvent, roomMin, unlessRoom, step, ticksMax}
 use Rattle.device.specs.Tally.{Tally, wrote, ifTaken}
 use Rattle.device.specs.Lost.{Lost, counts, noneLost, came, went, cleared}
-use Rattle.device.specs.Demands.{seen, Closed, dropCounts, request?, due}
+use Rattle.device.specs.Demands.{Closed, dropCounts, request?, due}
 use Rattle.device.proofs.Keeping.{begun-runs, tallyOf}
 
 -- ---- what joins the counts to the device's state

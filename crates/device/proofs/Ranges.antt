@@ -38,12 +38,11 @@ use Rattle.board.specs.Board.{Board, ringMax, txMax, infoOf, uidsOf, bitmap, sx
 use Rattle.board.specs.Params.{paramsGood, fskGood, freqGood}
 use Rattle.device.specs.State.{Config, Setting, Tx, Radio, free, listening, onAir, orphan, configuring, Packet, Inbox, Air, State, link, air, inbox, state, withLink, withInbox, deaf, powerUp, held, tagsOf, open#, free?, stalled}
 use Rattle.device.specs.State.{Event, byte, tick, clear, busy, sent, configured, fault, packet, request, disconnect, Input, Order, nothing}
-use Rattle.device.specs.Messages.{Message, wires, ok, okInfo, okConfigured, err, txDone, rx, cancelled, frameIn, found, TRANSMITTED, CHANNEL-BUSY, CANCELLED, EPARAM, ELENGTH, ENOTCONFIGURED, EMODULATION, EUNKNOWN-CMD, EBUSY, EFRAME, ERADIO}
+use Rattle.device.specs.Messages.{Message, wires, ok, okInfo, okConfigured, err, txDone, rx, cancelled, frameIn, found, TRANSMITTED, CHANNEL-BUSY, CANCELLED, EPARAM, ELENGTH, ENOTCONFIGURED, EMODULATION, EUNKNOWN-CMD, EBUSY, EFRAME, ERADIO, seen}
 use Rattle.device.specs.Frames.{Received, damaged, command, received, untagged, unconfigured, needsConfig, strange, configSized, sized, objection, good, settingOf, txOf}
 use Rattle.device.specs.Events.{Out, taken, begun, start, begin, next, afterTx, says, waitsFor, onTx, onSet, turned, onCommand, unless, onReceived, onRun, onByte, unlessStalled, onClear, onBusy, onSent, onConfigured, inForce, heard, onFault, cut, kept, dropsMax, listens, onPacket, onRequest, ended, endSession, ticksMax, onTick, onDisconnect, onEvent, roomMin, unlessRoom, step}
 use Rattle.device.specs.Tally.{wrote}
 use Rattle.device.specs.Ranges.{PacketIn, EventIn, InputIn, BoardIn}
-use Rattle.device.specs.Demands.{seen}
 use Rattle.device.proofs.Laws.{tags-more}
 use Rattle.device.proofs.Wires.{Sendable, AllSendable, sendable-append, length-wire, wires-append}
 use Rattle.device.proofs.Back.{TagIn, ConfigIn, ok-sent, info-sent, configured-sent, err-sent, done-sent, rx-sent}

@@ -26,7 +26,7 @@ use Rattle.message.specs.declared.Kinds.the-variants as K
 use Rattle.board.specs.Board.{Board}
 use Rattle.device.specs.State.{Radio, free, listening, onAir, orphan, configuring, State, link, withLink, powerUp, held, tagsOf, free?, runs?, stalled}
 use Rattle.device.specs.State.{Event, byte, tick, clear, busy, sent, configured, fault, packet, request, disconnect, Input, nothing}
-use Rattle.device.specs.Messages.{Message, payload, wire, err, EFRAME, Frame, frame, frames}
+use Rattle.device.specs.Messages.{Message, payload, wire, err, EFRAME, Frame, frame, seen, frames}
 use Rattle.device.specs.Frames.{damaged, received}
 use Rattle.device.specs.Events.{taken, refused, step, Reply, reply}
 use Rattle.device.specs.Tally.{Place, reported, dropped, withRadio, waits, Entry, entry, open?, Tally, noTally, ifTaken, tallied, wrote, dones, reportedTags, newlyReported}
@@ -129,9 +129,6 @@ unfoldable pub history : Board → List Input → History
 history b is = after b begins is
 
 -- ---- demand 2, the bytes: what an event writes is read back as the messages written
-
-abbrev pub seen : Message → Frame
-seen m = frame (answerKind (m .answer)) (m .tag) (payload m)
 
 -- The writer of answers (crate message) takes it into any memory that an event may be lent, and writes just these bytes; and the host's reader, with any command
 -- named that the answer may have, takes the frame, and has the same answer with the same bytes.

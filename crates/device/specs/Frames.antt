@@ -74,16 +74,19 @@ good b kind p =
     (cond (eqb kind TX) (leb (get flags p) flagsMax)
     true)
 
--- Why a command draws an ERR: the first that applies of steps 2 to 7, or none.
-unfoldable pub objection : Board → State → ℕ → List ℕ → Option ℕ
-objection b s kind p =
+-- Why a command draws an ERR: the first that applies of steps 2 to 7, or none. `bare` says whether the device is UNCONFIGURED, and n how many TX are open.
+abbrev pub objects : Board → Bool → ℕ → ℕ → List ℕ → Option ℕ
+objects b bare n kind p =
     cond (not (isCommand kind)) (some EUNKNOWN-CMD)
-    (cond (unconfigured (s .config) && needsConfig kind) (some ENOTCONFIGURED)
+    (cond (bare && needsConfig kind) (some ENOTCONFIGURED)
     (cond (eqb kind SET-CONFIG && strange p) (some EMODULATION)
     (cond (not (sized kind p)) (some ELENGTH)
     (cond (not (good b kind p)) (some EPARAM)
-    (cond (eqb kind TX && leb txMax (open# (s .air))) (some EBUSY)
+    (cond (eqb kind TX && leb txMax n) (some EBUSY)
     none)))))
+
+unfoldable pub objection : Board → State → ℕ → List ℕ → Option ℕ
+objection b s kind p = objects b (unconfigured (s .config)) (open# (s .air)) kind p
 
 -- ---- what a command without objection brings
 

@@ -132,6 +132,10 @@ wires (m ∷ ms) = wire m ++ wires ms
 pub data Frame : Type 0 where
   frame : ℕ → ℕ → List ℕ → Frame
 
+-- a message as it is seen on the wire
+abbrev pub seen : Message → Frame
+seen m = frame (answerKind (m .answer)) (m .tag) (payload m)
+
 -- of a run whose stuffing, length or check is wrong there is none
 abbrev pub found : Opened → List ℕ → List Frame
 found (O.Body k t n) p = frame k t p ∷ []
