@@ -1,0 +1,303 @@
+// The device's state and its answers, and the steps that all events share.
+ghost use mathlib.Core.Path.{_≡_};
+ghost use Rattle.control.specs.Control.{powerUp, answerOf, withLink, withAir, withInbox, withRadio, deaf, unconfigured, stalled, idle, ended, endSession};
+ghost use Rattle.control.specs.Control as C;
+use numbers::TAKEN;
+
+// The least output that an event takes, the longest frame: 01 "Numbers that come back", ROOM.
+pub const ROOM_MIN: usize = 283;
+
+// UNCONFIGURED, or the modulation of the configuration in force. Of the rest of it nothing is
+// needed any more.
+pub enum Mode {
+    Unconfigured,
+    Lora,
+    Fsk,
+}
+
+// What the radio does: 01 "What each event does". The SET_CONFIG that it is being configured with
+// stands in the memory of commands.
+pub enum Radio {
+    Free,
+    // It waits for a clear channel, to send the TX with this tag.
+    Listening(u16),
+    // It sends it.
+    OnAir(u16),
+    // It sends one whose session has ended.
+    Orphan,
+    Configuring,
+}
+
+// The host's side: whether a session is open, the liveness count in ms, and how long the run is.
+// The run's bytes stand in the memory of the run; one that is too long has length 283.
+pub struct Link {
+    pub session: bool,
+    pub ticks: u16,
+    pub run: u16,
+}
+
+// The radio's side: the radio, whether a SET_CONFIG waits, and the TX that wait: the slot of the
+// oldest, and how many. Their bytes stand in the memory of commands.
+pub struct Air {
+    pub radio: Radio,
+    pub pending: bool,
+    pub first: u8,
+    pub waiting: u8,
+}
+
+// Reception: whether it is on, the slot of the oldest packet, how many are held, and the drop
+// count. Their bytes stand in the memory of packets.
+pub struct Inbox {
+    pub receiving: bool,
+    pub first: u8,
+    pub held: u8,
+    pub drops: u16,
+}
+
+// The device's state, beside its three memories.
+pub struct Device {
+    pub mode: Mode,
+    pub link: Link,
+    pub air: Air,
+    pub inbox: Inbox,
+}
+
+// The order to the radio. Two of them name bytes in the memory of commands, len of them from index
+// at on: a modulation with its parameters, and a packet.
+pub enum Order {
+    Nothing,
+    Standby,
+    Configure { at: usize, len: usize, ldro: bool },
+    Transmit { at: usize, len: usize, listen: bool },
+    Receive,
+}
+
+// What an event answers: the next state, 01's number, how many bytes of the output were written,
+// and the order.
+pub struct Answer {
+    pub device: Device,
+    pub number: u8,
+    pub written: usize,
+    pub order: Order,
+}
+
+// The state at power-up.
+pub fn power_up() -> Device
+    ensures { λ r. ⌜ r ≡ powerUp ⌝ }
+{
+    let link = Link {
+        session: false,
+        ticks: 0,
+        run: 0,
+    };
+    let air = Air {
+        radio: Radio::Free,
+        pending: false,
+        first: 0,
+        waiting: 0,
+    };
+    let inbox = Inbox {
+        receiving: false,
+        first: 0,
+        held: 0,
+        drops: 0,
+    };
+    Device {
+        mode: Mode::Unconfigured,
+        link,
+        air,
+        inbox,
+    }
+}
+
+// An event that is taken, with so many bytes written.
+pub fn accept(d: Device, written: usize, order: Order) -> Answer
+    ensures { λ r. ⌜ r ≡ record { device = d; number = 0; written = written; order = order } ⌝ }
+{
+    Answer {
+        device: d,
+        number: TAKEN,
+        written,
+        order,
+    }
+}
+
+// An event that is refused.
+pub fn refuse(d: Device, number: u8) -> Answer
+    ensures { λ r. ⌜ r ≡ record { device = d; number = number; written = 0; order = Order.Nothing } ⌝ }
+{
+    Answer {
+        device: d,
+        number,
+        written: 0,
+        order: Order::Nothing,
+    }
+}
+
+// A state with a new link.
+pub fn with_link(d: Device, link: Link) -> Device
+    ensures { λ r. ⌜ r ≡ withLink d link ⌝ }
+{
+    let mode = d.mode;
+    let air = d.air;
+    let inbox = d.inbox;
+    Device {
+        mode,
+        link,
+        air,
+        inbox,
+    }
+}
+
+// A state with a new radio's side.
+pub fn with_air(d: Device, air: Air) -> Device
+    ensures { λ r. ⌜ r ≡ withAir d air ⌝ }
+{
+    let mode = d.mode;
+    let link = d.link;
+    let inbox = d.inbox;
+    Device {
+        mode,
+        link,
+        air,
+        inbox,
+    }
+}
+
+// A state with a new reception.
+pub fn with_inbox(d: Device, inbox: Inbox) -> Device
+    ensures { λ r. ⌜ r ≡ withInbox d inbox ⌝ }
+{
+    let mode = d.mode;
+    let link = d.link;
+    let air = d.air;
+    Device {
+        mode,
+        link,
+        air,
+        inbox,
+    }
+}
+
+// A radio's side with a new radio.
+pub fn with_radio(a: Air, radio: Radio) -> Air
+    ensures { λ r. ⌜ r ≡ withRadio a radio ⌝ }
+{
+    Air {
+        radio,
+        pending: a.pending,
+        first: a.first,
+        waiting: a.waiting,
+    }
+}
+
+// Whether a device is UNCONFIGURED.
+pub fn is_unconfigured(m: Mode) -> bool
+    ensures { λ r. ⌜ r ≡ unconfigured m ⌝ }
+{
+    match m {
+        Mode::Unconfigured => true,
+        Mode::Lora => false,
+        Mode::Fsk => false,
+    }
+}
+
+// Whether the radio does nothing.
+pub fn is_free(r: Radio) -> bool
+    ensures { λ b. ⌜ b ≡ C.free? r ⌝ }
+{
+    match r {
+        Radio::Free => true,
+        Radio::Listening(_) => false,
+        Radio::OnAir(_) => false,
+        Radio::Orphan => false,
+        Radio::Configuring => false,
+    }
+}
+
+// Whether it is being configured.
+fn is_configuring(r: Radio) -> bool
+    ensures { λ b. ⌜ b ≡ C.runs? r ⌝ }
+{
+    match r {
+        Radio::Free => false,
+        Radio::Listening(_) => false,
+        Radio::OnAir(_) => false,
+        Radio::Orphan => false,
+        Radio::Configuring => true,
+    }
+}
+
+// Whether a SET_CONFIG waits or runs.
+pub fn is_stalled(a: Air) -> bool
+    ensures { λ r. ⌜ r ≡ stalled a ⌝ }
+{
+    let radio = a.radio;
+    a.pending | is_configuring(radio)
+}
+
+// The order when there is nothing to send.
+pub fn idle(receiving: bool) -> Order
+    ensures { λ r. ⌜ r ≡ idle receiving ⌝ }
+{
+    if receiving {
+        return Order::Receive;
+    }
+    Order::Standby
+}
+
+// Nothing is received, and nothing is held.
+pub fn deaf(i: Inbox) -> Inbox
+    ensures { λ r. ⌜ r ≡ deaf i ⌝ }
+{
+    Inbox {
+        receiving: false,
+        first: i.first,
+        held: 0,
+        drops: 0,
+    }
+}
+
+// What a session's end leaves of the radio.
+fn ended(r: Radio) -> Radio
+    ensures { λ s. ⌜ s ≡ ended r ⌝ }
+{
+    match r {
+        Radio::Free => Radio::Free,
+        Radio::Listening(_) => Radio::Free,
+        Radio::OnAir(_) => Radio::Orphan,
+        Radio::Orphan => Radio::Orphan,
+        Radio::Configuring => Radio::Configuring,
+    }
+}
+
+// A session's end.
+pub fn end_session(d: Device) -> Answer
+    ensures { λ r. ⌜ r ≡ answerOf 0 (endSession d) ⌝ }
+{
+    let was = d.air;
+    let before = was.radio;
+    let radio = ended(before);
+    let inbox = deaf(d.inbox);
+    let link = Link {
+        session: false,
+        ticks: 0,
+        run: 0,
+    };
+    let air = Air {
+        radio,
+        pending: false,
+        first: was.first,
+        waiting: 0,
+    };
+    let e = Device {
+        mode: Mode::Unconfigured,
+        link,
+        air,
+        inbox,
+    };
+    if is_free(radio) {
+        return accept(e, 0, Order::Standby);
+    }
+    accept(e, 0, Order::Nothing)
+}

@@ -1,0 +1,24 @@
+-- Frames in lent output: what is written, and where it ends.
+-- Assumes nothing.
+use Prim.Native.Nat.{ℕ, _+_}
+use mathlib.Core.Path.{_≡_}
+use mathlib.Core.List.{List, [], _∷_, _++_}
+use lib.ListN.{length}
+use Rattle.buffer.specs.Lay.{lay}
+use Rattle.frame.specs.Body.{body}
+use Rattle.frame.specs.Body as B
+use Rattle.device.specs.Messages.{Frame, frame}
+
+-- the bytes of a frame, by its type, tag and payload
+unfoldable pub bytesOf : Frame → List ℕ
+bytesOf (frame k t p) = B.frame (body k t p)
+
+-- of several, one after another
+unfoldable pub sends : List Frame → List ℕ
+sends [] = []
+sends (f ∷ fs) = bytesOf f ++ sends fs
+
+-- f stands in the output o' from index `at` on and ends at r; the rest of it is as it was in o
+pub record Says (f : Frame) (o : List ℕ) (at r : ℕ) (o' : List ℕ) : Type 0 where
+  pub ends : r ≡ at + length (bytesOf f)
+  pub lays : o' ≡ lay at (bytesOf f) o

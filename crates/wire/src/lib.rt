@@ -1,0 +1,51 @@
+// The device's messages on the wire: each is written as a frame to lent output, from an index on.
+// Helpers of the crates above: they show that there is room.
+ghost use Prim.Native.Nat.{_+_, _≤_};
+ghost use lib.ListN.{length};
+ghost use Rattle.cobs.specs.Encoding.{worst};
+ghost use Rattle.frame.specs.Body.{overhead, payloadMax};
+ghost use Rattle.device.specs.Messages.{frame, seen, ok, err, txDone};
+ghost use Rattle.wire.specs.Wire.{Says};
+use frame::Written;
+use kind::ERR;
+use kind::OK;
+use kind::TX_DONE;
+
+// Writes a frame to out, from index at on, and answers where it ends.
+pub fn say(kind: u8, tag: u16, payload: &[u8], out: &mut [u8], at: usize) -> usize
+    requires { ⌜ length (now payload) ≤ payloadMax ⌝ }
+    requires { ⌜ at + (worst (length (now payload) + overhead) + 1) ≤ length (now out) ⌝ }
+    ensures { λ r. ⌜ Says (frame kind tag (now (payload .entry))) (now (out .entry)) at r (now (out .exit)) ⌝ }
+{
+    match frame::write(kind, tag, payload, &mut out[at..]) {
+        Written::Done(n) => at + n,
+        Written::Refused(_) => at,
+    }
+}
+
+// OK without a payload: P 6.7.
+pub fn say_ok(tag: u16, out: &mut [u8], at: usize) -> usize
+    requires { ⌜ at + 7 ≤ length (now out) ⌝ }
+    ensures { λ r. ⌜ Says (seen (ok tag)) (now (out .entry)) at r (now (out .exit)) ⌝ }
+{
+    say(OK, tag, &[], out, at)
+}
+
+// ERR: P 6.8.
+pub fn say_err(code: u16, tag: u16, out: &mut [u8], at: usize) -> usize
+    requires { ⌜ at + 9 ≤ length (now out) ⌝ }
+    ensures { λ r. ⌜ Says (seen (err code tag)) (now (out .entry)) at r (now (out .exit)) ⌝ }
+{
+    let payload = scalar::bytes_of_u16(code);
+    say(ERR, tag, &payload, out, at)
+}
+
+// TX_DONE: P 6.10.
+pub fn say_done(result: u8, airtime: u32, tag: u16, out: &mut [u8], at: usize) -> usize
+    requires { ⌜ at + 12 ≤ length (now out) ⌝ }
+    ensures { λ r. ⌜ Says (seen (txDone result airtime tag)) (now (out .entry)) at r (now (out .exit)) ⌝ }
+{
+    let time = scalar::bytes_of_u32(airtime);
+    let payload = [result, time[0], time[1], time[2], time[3]];
+    say(TX_DONE, tag, &payload, out, at)
+}
