@@ -1,4 +1,5 @@
--- The demands over every list of events from power-up: what is written is read back, demand 3, 01's last line on events, and the drop count.
+-- The demands on the defined device over every list of events from power-up: what is written is read back, demand 3, 01's last line on events, and the drop
+-- count.
 -- The idea: a history is good where its tally is that of its device (Keeping), each number is a value of its type (Ranges), and its bytes are the wires of messages
 -- that are read back (Wires); one event more keeps that.
 -- Assumes nothing.
@@ -19,7 +20,7 @@ use Rattle.device.specs.Events.{Out, step, reply}
 use Rattle.device.specs.Tally.{Entry, entry, waits, open?, Tally, tallied, dones, reportedTags, newlyReported}
 use Rattle.device.specs.Lost.{losing}
 use Rattle.device.specs.Ranges.{InputIn, BoardIn}
-use Rattle.device.specs.Demands.{Demand2Wire, Demand3, InTime, DropCount, dropCounts, History, onward, after, history, Closed, was-reported, was-dropped, closed, opens, outcomes, placeOf}
+use Rattle.device.specs.Demands.{Demand2Wire, Demand3, InTime, DropCount, dropCounts, defined, History, onward, after, history, Closed, was-reported, was-dropped, closed, opens, outcomes, placeOf}
 use Rattle.device.proofs.Laws.{atRadio, inQueue, reportedOf, dones-append}
 use Rattle.device.proofs.Wires.{AllSendable, sendable-append, wires-append, read-all}
 use Rattle.device.proofs.Back.{all-back}
@@ -29,7 +30,7 @@ use Rattle.device.proofs.Keeping.{length-open, tallyOf, tallyOut, Shape
 
 -- ---- good histories
 
-record Good (h : History) : Type 0 where
+record Good (b : Board) (h : History (defined b)) : Type 0 where
   before : List Closed
   agrees : h .tally ≡ tallyOf before (h .device)
   shaped : Shaped (h .device)
@@ -52,25 +53,25 @@ read-off e o t s = rw (read-all (o .written) s)
 
 module _ (b : Board) (board : BoardIn b) where
   -- what one event more does
-  module _ {h : History} (g : Good h) (i : Input) (l : InputIn i) where
+  module _ {h : History (defined b)} (g : Good b h) (i : Input) (l : InputIn i) where
     kept : Keeps (g .before) (h .device) (i .event) (step b (h .device) i)
     kept = keeps b (g .before) (h .device) i (g .shaped)
 
     ranged : R.Kept (step b (h .device) i)
     ranged = R.keeps b board (h .device) (g .ranges) i l
 
-    tally-next : onward b h i .tally ≡ tallyOf (g .before ++ kept .more) (step b (h .device) i .next)
+    tally-next : onward (defined b) h i .tally ≡ tallyOf (g .before ++ kept .more) (step b (h .device) i .next)
     unfolding onward
     tally-next = read-off (i .event) (step b (h .device) i) (h .tally) (ranged .sendable) ∙ ap (tallyOut (i .event) (step b (h .device) i)) (g .agrees) ∙ kept .agrees
 
-    reports-next : newlyReported (h .tally .txs) (onward b h i .tally .txs) ≡ reportedOf (kept .more)
+    reports-next : newlyReported (h .tally .txs) (onward (defined b) h i .tally .txs) ≡ reportedOf (kept .more)
     reports-next = ap₂ (λ (t u : Tally). newlyReported (t .txs) (u .txs)) (g .agrees) tally-next ∙ kept .reports
 
-    lost-next : onward b h i .lost ≡ losingOut (i .event) (step b (h .device) i) (tallyOf (g .before) (h .device)) (tallyOf (g .before ++ kept .more) (step b (h .device) i .next)) (h .lost)
+    lost-next : onward (defined b) h i .lost ≡ losingOut (i .event) (step b (h .device) i) (tallyOf (g .before) (h .device)) (tallyOf (g .before ++ kept .more) (step b (h .device) i .next)) (h .lost)
     unfolding onward losing
     lost-next = rw (read-all (step b (h .device) i .written) (ranged .sendable)) (ap₂ (λ (t u : Tally). losingOut (i .event) (step b (h .device) i) t u (h .lost)) (g .agrees) tally-next)
 
-    good-next : Good (onward b h i)
+    good-next : Good b (onward (defined b) h i)
     unfolding onward
     good-next =
         record {
@@ -85,12 +86,12 @@ module _ (b : Board) (board : BoardIn b) where
           losing = subst (Losing (step b (h .device) i .next)) (sym lost-next) (losing-keeps b (g .before) (g .before ++ kept .more) (h .device) i (h .lost) (g .losing));
         }
 
-  good-after : (is : List Input) → Each InputIn is → {h : History} → Good h → Good (after b h is)
+  good-after : (is : List Input) → Each InputIn is → {h : History (defined b)} → Good b h → Good b (after (defined b) h is)
   unfolding after
   good-after [] l g = g
   good-after (i ∷ is) l g = good-after is (l .1) (good-next g i (l .0))
 
-  good : (is : List Input) → Each InputIn is → Good (history b is)
+  good : (is : List Input) → Each InputIn is → Good b (history (defined b) is)
   unfolding history wires
   good is l =
       good-after is l record {
@@ -107,11 +108,11 @@ module _ (b : Board) (board : BoardIn b) where
 
   -- ---- demand 2, the bytes
 
-  pub demand2-wire : (is : List Input) → Each InputIn is → (i : Input) → InputIn i → Demand2Wire b is i
+  pub demand2-wire : (is : List Input) → Each InputIn is → (i : Input) → InputIn i → Demand2Wire (defined b) is i (step b (history (defined b) is .device) i .written)
   demand2-wire is l i e =
-      let ms = step b (history b is .device) i .written in
+      let ms = step b (history (defined b) is .device) i .written in
       let s = ranged (good is l) i e .sendable in
-      record { split = read-all ms s; back = all-back ms s }
+      record { bytes = refl; split = read-all ms s; back = all-back ms s }
 
   -- ---- demand 3
 
@@ -133,10 +134,10 @@ module _ (b : Board) (board : BoardIn b) where
   at-most-one orphan = zero-le
   at-most-one (configuring c) = zero-le
 
-  pub demand3 : (is : List Input) → Each InputIn is → Demand3 b is
+  pub demand3 : (is : List Input) → Each InputIn is → Demand3 (defined b) is
   demand3 is l =
       let g = good is l in
-      let h = history b is in
+      let h = history (defined b) is in
       record {
         before = g .before;
         places = ap (λ (t : Tally). t .txs) (g .agrees);
@@ -150,41 +151,41 @@ module _ (b : Board) (board : BoardIn b) where
 
   -- ---- 01's last line on events
 
-  abbrev closed# : {h : History} → Good h → ℕ
+  abbrev closed# : {h : History (defined b)} → Good b h → ℕ
   closed# g = length (g .before)
 
   -- one event more: no number is lost, no closed one opens, and while any is open each busy, sent or fault taken closes one
-  module _ {h : History} (g : Good h) (i : Input) (l : InputIn i) where
+  module _ {h : History (defined b)} (g : Good b h) (i : Input) (l : InputIn i) where
     more : closed# g + length (kept g i l .more) ≡ closed# (good-next g i l)
     unfolding good-next
     more = sym (length-append (g .before) (kept g i l .more))
 
-    no-loss : closed# g + open# (h .device .air) ≤ closed# (good-next g i l) + open# (onward b h i .device .air)
+    no-loss : closed# g + open# (h .device .air) ≤ closed# (good-next g i l) + open# (onward (defined b) h i .device .air)
     unfolding onward
     no-loss = omega (arith, more, kept g i l .grows)
 
-    gained : 0 < open# (onward b h i .device .air) → closed# g + passed (i .event) (step b (h .device) i .number) ≤ closed# (good-next g i l)
+    gained : 0 < open# (onward (defined b) h i .device .air) → closed# g + passed (i .event) (step b (h .device) i .number) ≤ closed# (good-next g i l)
     unfolding onward
     gained o = omega (arith, more, kept g i l .pace o)
 
-  stays : (is : List Input) (l : Each InputIn is) {h : History} (g : Good h) → closed# g ≤ closed# (good-after is l g)
+  stays : (is : List Input) (l : Each InputIn is) {h : History (defined b)} (g : Good b h) → closed# g ≤ closed# (good-after is l g)
   unfolding good-after after
   stays [] l g = le-refl _
   stays (i ∷ is) l g = le-trans (omega (arith, more g i (l .0))) (stays is (l .1) (good-next g i (l .0)))
 
   -- the TX with number n is closed once as many have ended as are open up to it
-  late : (is : List Input) (l : Each InputIn is) {h : History} (g : Good h) (n : ℕ) → n < closed# g + open# (h .device .air) → suc n ≤ closed# g + outcomes b h is
+  late : (is : List Input) (l : Each InputIn is) {h : History (defined b)} (g : Good b h) (n : ℕ) → n < closed# g + open# (h .device .air) → suc n ≤ closed# g + outcomes (defined b) h is
       → n < closed# (good-after is l g)
   unfolding good-after after outcomes
   late [] l g n h k = omega arith
-  late (i ∷ is) l {h} g n m k = go (leb (open# (onward b h i .device .air)) 0) refl (late is (l .1) (good-next g i (l .0)) n)
+  late (i ∷ is) l {h} g n m k = go (leb (open# (onward (defined b) h i .device .air)) 0) refl (late is (l .1) (good-next g i (l .0)) n)
     where
-      go : (v : Bool) → leb (open# (onward b h i .device .air)) 0 ≡ v
-          → (n < closed# (good-next g i (l .0)) + open# (onward b h i .device .air) → suc n ≤ closed# (good-next g i (l .0)) + outcomes b (onward b h i) is
+      go : (v : Bool) → leb (open# (onward (defined b) h i .device .air)) 0 ≡ v
+          → (n < closed# (good-next g i (l .0)) + open# (onward (defined b) h i .device .air) → suc n ≤ closed# (good-next g i (l .0)) + outcomes (defined b) (onward (defined b) h i) is
           → n < closed# (good-after is (l .1) (good-next g i (l .0))))
           → n < closed# (good-after is (l .1) (good-next g i (l .0)))
-      go true z ih = omega (arith, no-loss g i (l .0), leb-true (open# (onward b h i .device .air)) 0 z, stays is (l .1) (good-next g i (l .0)))
-      go false z ih = ih (omega (arith, no-loss g i (l .0))) (omega (arith, gained g i (l .0) (leb-false (open# (onward b h i .device .air)) 0 z)))
+      go true z ih = omega (arith, no-loss g i (l .0), leb-true (open# (onward (defined b) h i .device .air)) 0 z, stays is (l .1) (good-next g i (l .0)))
+      go false z ih = ih (omega (arith, no-loss g i (l .0))) (omega (arith, gained g i (l .0) (leb-false (open# (onward (defined b) h i .device .air)) 0 z)))
 
   -- the same of the tally: how many are open before number n, and its place
   queue-opens : (n : ℕ) (ts : List ℕ) → n ≤ length ts → opens (take n (inQueue ts)) ≡ n
@@ -212,20 +213,20 @@ module _ (b : Board) (board : BoardIn b) where
   closed-at (was-dropped t ∷ c) l zero d h = refl
   closed-at (x ∷ c) l (suc n) d h = closed-at c l n d (le-of-suc-le-suc h)
 
-  pub in-time : (is : List Input) → Each InputIn is → InTime b is
+  pub in-time : (is : List Input) → Each InputIn is → InTime (defined b) is
   in-time is l n m js r k =
       let g = good is l in
       let e = good-after js r g in
-      let s = history b is .device in
-      let a : length (history b is .tally .txs) ≡ closed# g + open# (s .air) =
+      let s = history (defined b) is .device in
+      let a : length (history (defined b) is .tally .txs) ≡ closed# g + open# (s .air) =
       ap (λ (t : Tally). length (t .txs)) (g .agrees) ∙ rw (length-append, length-map, length-open s) in
-      let o : n ≤ closed# g + opens (take n (history b is .tally .txs)) =
+      let o : n ≤ closed# g + opens (take n (history (defined b) is .tally .txs)) =
       rw (g .agrees) (open-before n (g .before) (held (s .air .radio)) (tagsOf (s .air .waiting)) (omega arith)) in
       rw (e .agrees) (closed-at (e .before) _ n (entry 0 waits) (late js r g n (omega arith) (omega arith)))
 
   -- ---- the drop count
 
-  pub drop-count : (is : List Input) → Each InputIn is → DropCount b is
+  pub drop-count : (is : List Input) → Each InputIn is → DropCount (defined b) is
   drop-count is l i e =
       let g = good is l in
-      ap dropCounts (read-all (step b (history b is .device) i .written) (ranged g i e .sendable)) ∙ reports b (history b is .device) i (history b is .lost) (g .losing)
+      ap dropCounts (read-all (step b (history (defined b) is .device) i .written) (ranged g i e .sendable)) ∙ reports b (history (defined b) is .device) i (history (defined b) is .lost) (g .losing)

@@ -8,3 +8,4 @@ pub mod Wires
 pub mod Back
 pub mod Ranges
 pub mod History
+pub mod Carrying

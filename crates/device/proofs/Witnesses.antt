@@ -15,27 +15,31 @@ use Rattle.board.specs.Board.{sx1262}
 use Rattle.device.specs.State.{Packet, Event, tick, sent, fault, packet, request, disconnect, byte, Input}
 use Rattle.device.specs.Messages.{frames}
 use Rattle.device.specs.Tally.{Entry, entry, withRadio, waits, dones, newlyReported}
-use Rattle.device.specs.Demands.{onward, history, answer, Closed, was-reported, was-dropped, closed, withRadioOf, waitingOf, dropCounts}
+use Rattle.device.specs.Demands.{System, defined, onward, history, answer, Closed, was-reported, was-dropped, closed, withRadioOf, waitingOf, dropCounts}
 use Rattle.device.specs.Scripts.{lent, bytesIn, sends, lora, ready}
 use Rattle.device.proofs.Computing.{computes}
+
+-- the defined device with the board of P C.2.2
+abbrev device : System
+device = defined sx1262
 
 -- ---- the clauses of demand 3, of one history
 
 -- `each`, at one event more: both are the tags ts
 abbrev Reports : List Input → Event → List ℕ → Type 0
 Reports is e ts =
-    (dones (frames (answer sx1262 (history sx1262 is) (lent e) .bytes)) ≡ ts)
-    × (newlyReported (history sx1262 is .tally .txs) (onward sx1262 (history sx1262 is) (lent e) .tally .txs) ≡ ts)
+    (dones (frames (answer device (history device is) (lent e) .bytes)) ≡ ts)
+    × (newlyReported (history device is .tally .txs) (onward device (history device is) (lent e) .tally .txs) ≡ ts)
 
 -- `places`: these are reported or dropped, and the device has these open
 abbrev Places : List Input → List Closed → List Entry → Type 0
 Places is before now =
-    (history sx1262 is .tally .txs ≡ map closed before ++ now)
-    × (withRadioOf (history sx1262 is .device) ++ waitingOf (history sx1262 is .device) ≡ now)
+    (history device is .tally .txs ≡ map closed before ++ now)
+    × (withRadioOf device (history device is .device) ++ waitingOf device (history device is .device) ≡ now)
 
 -- `few`
 abbrev Few : List Input → Type 0
-Few is = leb (length (withRadioOf (history sx1262 is .device) ++ waitingOf (history sx1262 is .device))) 16 ≡ true
+Few is = leb (length (withRadioOf device (history device is .device) ++ waitingOf device (history device is .device))) 16 ≡ true
 
 -- ---- scripts
 
@@ -100,10 +104,10 @@ quiet = record { rssi = pos 0; snr = pos 0; freq-err = pos 0; time = 0; crc-vali
 abbrev heard : List Input
 heard = ready ++ (sends RX-START 10 [] ++ replicate 65 (lent (packet quiet)))
 
-pub one-lost : dropCounts (frames (answer sx1262 (history sx1262 heard) (lent request) .bytes)) ≡ 1 ∷ []
+pub one-lost : dropCounts (frames (answer device (history device heard) (lent request) .bytes)) ≡ 1 ∷ []
 unfolding computes
 one-lost = refl
 
-pub none-lost : dropCounts (frames (answer sx1262 (history sx1262 (heard ++ (lent request ∷ []))) (lent request) .bytes)) ≡ 0 ∷ []
+pub none-lost : dropCounts (frames (answer device (history device (heard ++ (lent request ∷ []))) (lent request) .bytes)) ≡ 0 ∷ []
 unfolding computes
 none-lost = refl

@@ -1,5 +1,6 @@
 -- The demands as statements about the device: 00, demands 1 to 3; 01's last line under "What each event does"; the drop count of P 6.9.
--- proofs/ has each of them proved, under the name that stands above it here.
+-- Demand 1, and demand 2 for damaged frames, speak of every state of the device as 01 defines it. What is demanded after a list of events is stated for any device.
+-- proofs/ has each of them proved of the defined device, under the name that stands above it here.
 -- Assumes nothing.
 use Prim.Native.Nat.{ℕ, suc, _+_, _≤_, _<_, min}
 use mathlib.Core.Path.{_≡_}
@@ -26,7 +27,7 @@ use Rattle.message.specs.declared.Kinds.the-variants as K
 use Rattle.board.specs.Board.{Board}
 use Rattle.device.specs.State.{Radio, free, listening, onAir, orphan, configuring, State, link, withLink, powerUp, held, tagsOf, free?, runs?, stalled}
 use Rattle.device.specs.State.{Event, byte, tick, clear, busy, sent, configured, fault, packet, request, disconnect, Input, nothing}
-use Rattle.device.specs.Messages.{Message, payload, wire, err, EFRAME, Frame, frame, seen, frames}
+use Rattle.device.specs.Messages.{Message, payload, wire, wires, err, EFRAME, Frame, frame, seen, frames}
 use Rattle.device.specs.Frames.{damaged, received}
 use Rattle.device.specs.Events.{taken, refused, step, Reply, reply}
 use Rattle.device.specs.Tally.{Place, reported, dropped, withRadio, waits, Entry, entry, open?, Tally, noTally, ifTaken, tallied, wrote, dones, reportedTags, newlyReported}
@@ -95,38 +96,70 @@ Demand2 b s room =
     ltb room 283 ≡ false → stalled (s .air) ≡ false → 0 < length (s .link .run) → received (s .link .run) ≡ damaged
     → step b s (record { room = room; event = byte 0 }) ≡ taken (withLink (link true 0 []) s) (err EFRAME 0 ∷ []) nothing
 
+-- ---- a device as the demands on histories see it
+
+pub record System : Type 1 where
+  -- its states, and the one at power-up
+  pub State : Type 0
+  pub powerUp : State
+  -- what it is given: an event, with what is lent for its answer; and that each number of it is a value of its type
+  pub Given : Type 0
+  pub event : Given → Event
+  pub GivenIn : Given → Type 0
+  -- its answer in a state, and its state after that
+  pub answer : State → Given → Reply
+  pub next : State → Given → State
+  -- the tags of its open TX, in their order: with the radio, and waiting
+  pub radio : State → List ℕ
+  pub waiting : State → List ℕ
+
+-- the device as 01 defines it, with any board
+abbrev pub defined : Board → System
+defined b =
+    record {
+      State = State;
+      powerUp = powerUp;
+      Given = Input;
+      event = λ i. i .event;
+      GivenIn = InputIn;
+      answer = λ s i. reply (step b s i);
+      next = λ s i. step b s i .next;
+      radio = λ s. held (s .air .radio);
+      waiting = λ s. tagsOf (s .air .waiting);
+    }
+
 -- ---- histories: every list of events from power-up, refused ones included
 
 -- what a list of events has come to: the device, the tally, the packets lost, and all bytes written, in their order
-pub record History : Type 0 where
-  pub device : State
+pub record History (y : System) : Type 0 where
+  pub device : y .State
   pub tally : Tally
   pub lost : Lost
   pub bytes : List ℕ
 
 -- the answer to one event more
-abbrev pub answer : Board → History → Input → Reply
-answer b h i = reply (step b (h .device) i)
+abbrev pub answer : (y : System) → History y → y .Given → Reply
+answer y h i = y .answer (h .device) i
 
-unfoldable pub onward : Board → History → Input → History
-onward b h i =
-    let t = tallied (i .event) (answer b h i) (h .tally) in
+unfoldable pub onward : (y : System) → History y → y .Given → History y
+onward y h i =
+    let t = tallied (y .event i) (answer y h i) (h .tally) in
     record {
-      device = step b (h .device) i .next;
+      device = y .next (h .device) i;
       tally = t;
-      lost = losing (i .event) (answer b h i) (h .tally) t (h .lost);
-      bytes = h .bytes ++ answer b h i .bytes;
+      lost = losing (y .event i) (answer y h i) (h .tally) t (h .lost);
+      bytes = h .bytes ++ answer y h i .bytes;
     }
 
-unfoldable pub after : Board → History → List Input → History
-after b h [] = h
-after b h (i ∷ is) = after b (onward b h i) is
+unfoldable pub after : (y : System) → History y → List (y .Given) → History y
+after y h [] = h
+after y h (i ∷ is) = after y (onward y h i) is
 
-abbrev pub begins : History
-begins = record { device = powerUp; tally = noTally; lost = noneLost; bytes = [] }
+abbrev pub begins : (y : System) → History y
+begins y = record { device = y .powerUp; tally = noTally; lost = noneLost; bytes = [] }
 
-unfoldable pub history : Board → List Input → History
-history b is = after b begins is
+unfoldable pub history : (y : System) → List (y .Given) → History y
+history y is = after y (begins y) is
 
 -- ---- demand 2, the bytes: what an event writes is read back as the messages written
 
@@ -140,10 +173,12 @@ pub record Back (m : Message) : Type 0 where
   pub same : (name : Name) → Names (m .answer) name → readAnswer (answerKind (m .answer)) name (payload m) ≡ D.Answer (m .answer)
   pub bytes : (name : Name) → Names (m .answer) name → answerTail (answerKind (m .answer)) name (payload m) ≡ m .bytes
 
--- demand2-wire: splitting what was written at its zeros and opening each run gives the messages, and each is read as the same message
-pub record Demand2Wire (b : Board) (is : List Input) (i : Input) : Type 0 where
-  pub split : frames (answer b (history b is) i .bytes) ≡ map seen (step b (history b is .device) i .written)
-  pub back : Each Back (step b (history b is .device) i .written)
+-- demand2-wire: one event more writes the messages ms. Splitting its bytes at their zeros and opening each run gives these messages, and each is read as the same
+-- message. Of the defined device, ms are those that `step` says.
+pub record Demand2Wire (y : System) (is : List (y .Given)) (i : y .Given) (ms : List Message) : Type 0 where
+  pub bytes : answer y (history y is) i .bytes ≡ wires ms
+  pub split : frames (answer y (history y is) i .bytes) ≡ map seen ms
+  pub back : Each Back ms
 
 -- ---- demand 3
 
@@ -157,29 +192,29 @@ closed (was-reported t) = entry t reported
 closed (was-dropped t) = entry t dropped
 
 -- the device's open TX, as entries
-abbrev pub withRadioOf : State → List Entry
-withRadioOf s = map (λ t. entry t withRadio) (held (s .air .radio))
+abbrev pub withRadioOf : (y : System) → y .State → List Entry
+withRadioOf y s = map (λ t. entry t withRadio) (y .radio s)
 
-abbrev pub waitingOf : State → List Entry
-waitingOf s = map (λ t. entry t waits) (tagsOf (s .air .waiting))
+abbrev pub waitingOf : (y : System) → y .State → List Entry
+waitingOf y s = map (λ t. entry t waits) (y .waiting s)
 
 -- demand3: after every list of events, and at every event that follows it
-pub record Demand3 (b : Board) (is : List Input) : Type 0 where
+pub record Demand3 (y : System) (is : List (y .Given)) : Type 0 where
   -- in number order: first those reported or dropped, then the one with the radio, if any, then those that wait; these two are the device's own, by place, order
   -- and tag
   pub before : List Closed
-  pub places : history b is .tally .txs ≡ map closed before ++ (withRadioOf (history b is .device) ++ waitingOf (history b is .device))
-  pub one : length (withRadioOf (history b is .device)) ≤ 1
-  pub few : length (withRadioOf (history b is .device) ++ waitingOf (history b is .device)) ≤ 16
+  pub places : history y is .tally .txs ≡ map closed before ++ (withRadioOf y (history y is .device) ++ waitingOf y (history y is .device))
+  pub one : length (withRadioOf y (history y is .device)) ≤ 1
+  pub few : length (withRadioOf y (history y is .device) ++ waitingOf y (history y is .device)) ≤ 16
   -- the TX_DONEs that one event more writes are those of the TX that the tally reports at it: one each, with its tag, in number order
-  pub each : (i : Input) → InputIn i
-      → dones (frames (answer b (history b is) i .bytes)) ≡ newlyReported (history b is .tally .txs) (onward b (history b is) i .tally .txs)
+  pub each : (i : y .Given) → y .GivenIn i
+      → dones (frames (answer y (history y is) i .bytes)) ≡ newlyReported (history y is .tally .txs) (onward y (history y is) i .tally .txs)
   -- in all that was written, each reported TX has one TX_DONE, and they come in number order
-  pub whole : dones (frames (history b is .bytes)) ≡ reportedTags (history b is .tally .txs)
+  pub whole : dones (frames (history y is .bytes)) ≡ reportedTags (history y is .tally .txs)
   -- one event more writes at most 283 bytes, and at most 201 if it delivers no packet
-  pub most : (i : Input) → InputIn i → length (answer b (history b is) i .bytes) ≤ 283
-  pub most-but-packets : (i : Input) → InputIn i → wrote RX (frames (answer b (history b is) i .bytes)) ≡ false
-      → length (answer b (history b is) i .bytes) ≤ 201
+  pub most : (i : y .Given) → y .GivenIn i → length (answer y (history y is) i .bytes) ≤ 283
+  pub most-but-packets : (i : y .Given) → y .GivenIn i → wrote RX (frames (answer y (history y is) i .bytes)) ≡ false
+      → length (answer y (history y is) i .bytes) ≤ 201
 
 -- ---- 01's last line on events
 
@@ -201,23 +236,23 @@ outcome? request = false
 outcome? disconnect = false
 
 -- how many busy, sent or fault of a list are taken
-unfoldable pub outcomes : Board → History → List Input → ℕ
-outcomes b h [] = 0
-outcomes b h (i ∷ is) = cond (outcome? (i .event)) (ifTaken (answer b h i .number) 1 0) 0 + outcomes b (onward b h i) is
+unfoldable pub outcomes : (y : System) → History y → List (y .Given) → ℕ
+outcomes y h [] = 0
+outcomes y h (i ∷ is) = cond (outcome? (y .event i)) (ifTaken (answer y h i .number) 1 0) 0 + outcomes y (onward y h i) is
 
 abbrev pub placeOf : Entry → Place
 placeOf (entry t p) = p
 
 -- the place of the TX with number n
-abbrev pub placeAt : ℕ → History → Place
-placeAt n h = placeOf (getD (h .tally .txs) n (entry 0 waits))
+abbrev pub placeAt : ℕ → List Entry → Place
+placeAt n xs = placeOf (getD xs n (entry 0 waits))
 
 -- in-time: a TX with k open before it is open no more once k + 1 have been taken: it is reported, or its session has ended and it is dropped
-abbrev pub InTime : Board → List Input → Type 0
-InTime b is =
-    (n : ℕ) → n < length (history b is .tally .txs) → (js : List Input) → Each InputIn js
-    → suc (opens (take n (history b is .tally .txs))) ≤ outcomes b (history b is) js
-    → open? (placeAt n (after b (history b is) js)) ≡ false
+abbrev pub InTime : (y : System) → List (y .Given) → Type 0
+InTime y is =
+    (n : ℕ) → n < length (history y is .tally .txs) → (js : List (y .Given)) → Each (y .GivenIn) js
+    → suc (opens (take n (history y is .tally .txs))) ≤ outcomes y (history y is) js
+    → open? (placeAt n (after y (history y is) js .tally .txs)) ≡ false
 
 -- ---- the drop count
 
@@ -243,8 +278,8 @@ abbrev pub due : Event → ℕ → Lost → Bool
 due e n l = request? e && ifTaken n (ltb 0 (l .here)) false
 
 -- drop-count: an RX comes when it is due, and reports as many packets as were lost, up to 65,535
-abbrev pub DropCount : Board → List Input → Type 0
-DropCount b is =
-    (i : Input) → InputIn i
-    → dropCounts (frames (answer b (history b is) i .bytes))
-    ≡ cond (due (i .event) (answer b (history b is) i .number) (history b is .lost)) (min (history b is .lost .lost) 65535 ∷ []) []
+abbrev pub DropCount : (y : System) → List (y .Given) → Type 0
+DropCount y is =
+    (i : y .Given) → y .GivenIn i
+    → dropCounts (frames (answer y (history y is) i .bytes))
+    ≡ cond (due (y .event i) (answer y (history y is) i .number) (history y is .lost)) (min (history y is .lost .lost) 65535 ∷ []) []

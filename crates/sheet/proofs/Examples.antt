@@ -21,7 +21,7 @@ use Rattle.device.specs.State.{Event, byte, tick, clear, busy, sent, configured
 use Rattle.device.specs.Messages.{Message, ok, okInfo, okConfigured, err, txDone, wire, wires, EPARAM, ELENGTH, ENOTCONFIGURED, EMODULATION, EUNKNOWN-CMD, EBUSY, ERADIO, EFRAME, TRANSMITTED, CHANNEL-BUSY, CANCELLED}
 use Rattle.device.specs.Frames.{objection, settingOf}
 use Rattle.device.specs.Events.{refused, step, Reply}
-use Rattle.device.specs.Demands.{history, answer}
+use Rattle.device.specs.Demands.{defined, history, answer}
 use Rattle.device.specs.Scripts.{lent, bytesIn, sends, lora, ready}
 use Rattle.device.proofs.Computing.{computes}
 
@@ -29,10 +29,10 @@ use Rattle.device.proofs.Computing.{computes}
 
 -- after some events from power-up: the state, and the answer to one more
 abbrev stateAfter : List Input → State
-stateAfter is = history sx1262 is .device
+stateAfter is = history (defined sx1262) is .device
 
 abbrev eventAfter : List Input → Event → Reply
-eventAfter is e = answer sx1262 (history sx1262 is) (lent e)
+eventAfter is e = answer (defined sx1262) (history (defined sx1262) is) (lent e)
 
 -- the answer to the zero that ends a run, and to the one that ends a command
 abbrev runAfter : List Input → List ℕ → Reply

@@ -18,12 +18,12 @@ use Rattle.board.specs.Board.{sx1262}
 use Rattle.board.specs.Ldro.{ldro}
 use Rattle.device.specs.State.{configured, Input}
 use Rattle.device.specs.Messages.{ok, txDone, CANCELLED, wire}
-use Rattle.device.specs.Demands.{history}
+use Rattle.device.specs.Demands.{defined, history}
 use Rattle.device.specs.Scripts.{lent, bytesIn}
 
 -- all bytes that the device has written after some events from power-up; the board is P C.2.2's
 abbrev pub written : List Input → List ℕ
-written is = history sx1262 is .bytes
+written is = history (defined sx1262) is .bytes
 
 -- P C.2.1: PING 0001, and its OK
 abbrev pub ping : List ℕ

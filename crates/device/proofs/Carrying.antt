@@ -1,0 +1,95 @@
+-- What is demanded of a device after a list of events holds of every device that goes in step with it: proved of one, it is carried to the other.
+-- The idea: the two answer alike, and the tally, the packets lost and the bytes are made of events and answers alone.
+-- Assumes nothing.
+use mathlib.Core.Path.{_≡_, refl}
+use mathlib.Core.List.{List, [], _∷_, map}
+use Rattle.scalar.specs.Bytes.{Each}
+use Rattle.device.specs.Messages.{Message}
+use Rattle.device.specs.Demands.{System, History, onward, after, history, Demand2Wire, Demand3, outcomes, InTime, DropCount}
+
+-- The device y goes in step with z: what y is given is given to z by g, and R joins their states. R may say more of the two states than is asked for here.
+pub record InStep (y z : System) (g : y .Given → z .Given) (R : y .State → z .State → Type 0) : Type 0 where
+  pub event : (c : y .Given) → y .event c ≡ z .event (g c)
+  pub givenIn : (c : y .Given) → y .GivenIn c → z .GivenIn (g c)
+  pub powerUp : R (y .powerUp) (z .powerUp)
+  pub answer : (s : y .State) (t : z .State) → R s t → (c : y .Given) → y .GivenIn c → y .answer s c ≡ z .answer t (g c)
+  pub next : (s : y .State) (t : z .State) → R s t → (c : y .Given) → y .GivenIn c → R (y .next s c) (z .next t (g c))
+  pub radio : (s : y .State) (t : z .State) → R s t → y .radio s ≡ z .radio t
+  pub waiting : (s : y .State) (t : z .State) → R s t → y .waiting s ≡ z .waiting t
+
+-- two histories that differ in the device's state alone, and there as R says
+record Alike (y z : System) (R : y .State → z .State → Type 0) (h : History y) (k : History z) : Type 0 where
+  device : R (h .device) (k .device)
+  tally : h .tally ≡ k .tally
+  lost : h .lost ≡ k .lost
+  bytes : h .bytes ≡ k .bytes
+
+module _ {y z : System} {g : y .Given → z .Given} {R : y .State → z .State → Type 0} (p : InStep y z g R) where
+  -- what z is given instead has values of their types, too
+  pub given-in : (cs : List (y .Given)) → Each (y .GivenIn) cs → Each (z .GivenIn) (map g cs)
+  given-in [] l = tt
+  given-in (c ∷ cs) l = (p .givenIn c (l .0), given-in cs (l .1))
+
+  -- ---- histories
+
+  module _ {h : History y} {k : History z} (a : Alike y z R h k) (c : y .Given) (i : y .GivenIn c) where
+    answers : y .answer (h .device) c ≡ z .answer (k .device) (g c)
+    answers = p .answer (h .device) (k .device) (a .device) c i
+
+    alike-next : Alike y z R (onward y h c) (onward z k (g c))
+    unfolding onward
+    alike-next =
+        record {
+          device = p .next (h .device) (k .device) (a .device) c i;
+          tally = rw (p .event c, answers, a .tally);
+          lost = rw (p .event c, answers, a .tally, a .lost);
+          bytes = rw (answers, a .bytes);
+        }
+
+  alike-after : (cs : List (y .Given)) → Each (y .GivenIn) cs → {h : History y} {k : History z} → Alike y z R h k → Alike y z R (after y h cs) (after z k (map g cs))
+  unfolding after
+  alike-after [] l a = a
+  alike-after (c ∷ cs) l a = alike-after cs (l .1) (alike-next a c (l .0))
+
+  alike : (cs : List (y .Given)) → Each (y .GivenIn) cs → Alike y z R (history y cs) (history z (map g cs))
+  unfolding history
+  alike cs l = alike-after cs l record { device = p .powerUp; tally = refl; lost = refl; bytes = refl }
+
+  alike-outcomes : (cs : List (y .Given)) → Each (y .GivenIn) cs → {h : History y} {k : History z} → Alike y z R h k → outcomes y h cs ≡ outcomes z k (map g cs)
+  unfolding outcomes
+  alike-outcomes [] l a = refl
+  alike-outcomes (c ∷ cs) l a = rw (p .event c, answers a c (l .0), alike-outcomes cs (l .1) (alike-next a c (l .0)))
+
+  -- ---- the demands
+
+  module _ (cs : List (y .Given)) (l : Each (y .GivenIn) cs) where
+    pub demand2-wire-carried : (c : y .Given) → y .GivenIn c → {ms : List Message} → Demand2Wire z (map g cs) (g c) ms → Demand2Wire y cs c ms
+    demand2-wire-carried c i d =
+        let e = answers (alike cs l) c i in
+        record { bytes = rw e (d .bytes); split = rw e (d .split); back = d .back }
+
+    pub demand3-carried : Demand3 z (map g cs) → Demand3 y cs
+    demand3-carried d =
+        let a = alike cs l in
+        let r = p .radio (history y cs .device) (history z (map g cs) .device) (a .device) in
+        let w = p .waiting (history y cs .device) (history z (map g cs) .device) (a .device) in
+        record {
+          before = d .before;
+          places = rw (a .tally, r, w) (d .places);
+          one = rw r (d .one);
+          few = rw (r, w) (d .few);
+          each = λ c i. rw (alike-next a c i .tally, answers a c i, a .tally) (d .each (g c) (p .givenIn c i));
+          whole = rw (a .bytes, a .tally) (d .whole);
+          most = λ c i. rw (answers a c i) (d .most (g c) (p .givenIn c i));
+          most-but-packets = λ c i. rw (answers a c i) (d .most-but-packets (g c) (p .givenIn c i));
+        }
+
+    pub in-time-carried : InTime z (map g cs) → InTime y cs
+    in-time-carried d n m js r o =
+        let a = alike cs l in
+        rw (alike-after js r a .tally) (d n (rw (a .tally) at m) (map g js) (given-in js r) (rw (alike-outcomes js r a, a .tally) at o))
+
+    pub drop-count-carried : DropCount z (map g cs) → DropCount y cs
+    drop-count-carried d c i =
+        let a = alike cs l in
+        rw (answers a c i, p .event c, a .lost) (d (g c) (p .givenIn c i))
