@@ -1,25 +1,28 @@
--- What is written of a modulation is read back, how long it is, what a form tells, and what stands in bytes. The columns compute, and each field is read back
--- by the laws of numbers.
+-- What is written of a modulation is read back, and what is read is written back; how long it is, what a form tells, and what stands in bytes. The columns
+-- compute, and each field is read back by the laws of numbers.
 -- Assumes nothing.
-use mathlib.Core.Path.{_≡_, refl, sym, ap, subst, _∙_}
-use mathlib.Core.Bool.{Bool, true, false, cond}
-use mathlib.Core.List.{List, _++_}
-use Prim.Native.Nat.{ℕ, _+_, _≤_}
+use mathlib.Core.Path.{_≡_, refl, sym, ap, ap₂, subst, _∙_}
+use mathlib.Core.Bool.{Bool, true, false, cond, true≢false}
+use mathlib.Core.List.{List, _∷_, _++_}
+use mathlib.Core.Logic.{_⊎_, inl, inr}
+use Prim.Native.Nat.{ℕ, _+_, _<_, _≤_}
 use native.Mathlib.Omega.{arith}
 use borrow.Author.Tests.{le-ltb, eq-eqb, eqb-true}
 use lib.Dec.{ltb, eqb}
-use lib.ListN.{length, take, drop}
-use lib.Seq.{take-all}
+use lib.ListN.{length, take, drop, length-drop, take-append-drop}
+use lib.Seq.{take-all, length-take-le, drop-drop}
+use Rattle.buffer.proofs.Deciding.{le-or-lt}
+use Rattle.buffer.proofs.Laws.{next, no-more, the-rest}
 use Rattle.buffer.specs.Lay.{lay}
 use Rattle.scalar.specs.Bytes.{IsByte, Bytes}
-use Rattle.scalar.specs.Scalars.{le, number, i8, get}
-use Rattle.scalar.proofs.Bytes.{each-drop, get-small}
-use Rattle.scalar.proofs.Laws.{signed-back, mag-signed, number-le}
+use Rattle.scalar.specs.Scalars.{le, number, i8, signed, unsigned, column, get}
+use Rattle.scalar.proofs.Bytes.{each-take, each-drop, get-small}
+use Rattle.scalar.proofs.Laws.{signed-back, signed-low, signed-high, mag-signed, number-le, le-number, get-byte}
 use Rattle.form.specs.Forms.{exactly}
 use Rattle.form.proofs.Laws.{exactly-size, passed}
 use Rattle.modulation.specs.Lora.{loraOf, loraBytes}
-use Rattle.modulation.specs.Fsk.{fskOf, fskBytes}
-use Rattle.modulation.specs.Modulations.{LORA, modulation-id, paramsOf, configForm, configOf, configBytes, syncWord}
+use Rattle.modulation.specs.Fsk.{sync-word-len, fskOf, fskBytes}
+use Rattle.modulation.specs.Modulations.{LORA, FSK, modulation-id, paramsOf, configForm, configOf, configBytes, syncWord}
 use Rattle.modulation.specs.Ranges.{LoraIn, FskIn, ModulationIn}
 use Rattle.modulation.specs.declared.Lora.{Lora}
 use Rattle.modulation.specs.declared.Fsk.{Fsk}
@@ -27,7 +30,7 @@ use Rattle.form.specs.declared.Form.{Form}
 use Rattle.form.specs.declared.Form.the-variants as F
 use Rattle.modulation.specs.declared.Modulation.{Modulation}
 use Rattle.modulation.specs.declared.Modulation.the-variants as M
-use Rattle.modulation.proofs.Rows.{Row, is-lora, is-fsk, is-wrong, row}
+use Rattle.modulation.proofs.Rows.{of-lora, of-fsk, word-none, word-some, Row, is-lora, is-fsk, is-wrong, row}
 
 -- ---- the parameters
 
@@ -142,7 +145,7 @@ form-bounds p n e = subst Bounds e (go (row p))
 
     go : {f : Form} → Row p f → Bounds f
     go (is-lora t) = (omega arith, omega arith)
-    go (is-fsk h k) = (omega arith, omega arith)
+    go (is-fsk t h k) = (omega arith, omega arith)
     go is-wrong = tt
 
 -- the longest payload
@@ -186,3 +189,77 @@ config-in p b = go (eqb (get modulation-id p) LORA)
     go : (lora : Bool) → ModulationIn (cond lora (M.Lora (loraOf (paramsOf p))) (M.Fsk (fskOf (paramsOf p))))
     go true = lora-in (paramsOf p) (each-drop IsByte 1 p b)
     go false = fsk-in (paramsOf p) (each-drop IsByte 1 p b)
+
+-- ---- a configuration that is read and written again is the same bytes
+
+unsigned-back : (half u : ℕ) → u < half + half → unsigned half (signed half u) ≡ u
+unfolding unsigned
+unsigned-back half u h = go (le-or-lt half u)
+  where
+    go : (half ≤ u) ⊎ (u < half) → unsigned half (signed half u) ≡ u
+    go (inl k) = rw (signed-high half u k) (omega arith)
+    go (inr k) = rw (signed-low half u k) refl
+
+module _ (q : List ℕ) (b : Bytes q) where
+  -- a column with the number that stands in it, and what stands after it
+  column-same : (at n : ℕ) → at + n ≤ length q → {x : ℕ} → x ≡ get (column at n) q → {r : List ℕ} → r ≡ drop (at + n) q → le n x ++ r ≡ drop at q
+  column-same at n h e d =
+      let bs = take n (drop at q) in
+      let k : length bs ≡ n = length-take-le n (drop at q) (rw (length-drop at q) (omega arith)) in
+      ap₂ _++_ (ap₂ le (sym k) e ∙ le-number bs (each-take IsByte n (drop at q) (each-drop IsByte at q b))) (d ∙ sym (drop-drop n at q))
+      ∙ take-append-drop n (drop at q)
+
+  lora-same : 15 ≤ length q → loraBytes (loraOf q) ++ drop 15 q ≡ q
+  unfolding loraBytes loraOf lay le
+  lora-same h =
+      column-same 0 4 (omega arith) refl
+      (column-same 4 1 (omega arith) refl
+      (column-same 5 1 (omega arith) refl
+      (column-same 6 1 (omega arith) refl
+      (column-same 7 2 (omega arith) refl
+      (column-same 9 2 (omega arith) refl
+      (column-same 11 1 (omega arith) (unsigned-back i8 (get (column 11 1) q) (get-small 11 1 q b))
+      (column-same 12 1 (omega arith) refl
+      (column-same 13 1 (omega arith) refl
+      (column-same 14 1 (omega arith) refl refl)))))))))
+
+  fsk-same : 16 ≤ length q → fskBytes (fskOf q) ++ drop 16 q ≡ q
+  unfolding fskBytes fskOf lay le
+  fsk-same h =
+      column-same 0 4 (omega arith) refl
+      (column-same 4 4 (omega arith) refl
+      (column-same 8 4 (omega arith) refl
+      (column-same 12 1 (omega arith) refl
+      (column-same 13 2 (omega arith) refl
+      (column-same 15 1 (omega arith) refl refl)))))
+
+pub config-same : (p : List ℕ) → Bytes p → exactly (configForm p) (length p) ≡ true → configBytes (configOf p) (syncWord p) ≡ p
+unfolding configBytes
+config-same p b e = go (row p) e
+  where
+    q : List ℕ
+    q = paramsOf p
+
+    bytes : Bytes q
+    bytes = each-drop IsByte 1 p b
+
+    whole : {id : ℕ} → get modulation-id p ≡ id → 0 < length p → id ∷ q ≡ p
+    whole t h = sym (next p 0 h ∙ ap (λ (id : ℕ). id ∷ q) (get-byte 0 p h ∙ t))
+
+    go : {f : Form} → Row p f → exactly f (length p) ≡ true → configBytes (configOf p) (syncWord p) ≡ p
+    go (is-lora t) e =
+        let n = eqb-true 16 (length p) e in
+        let l = length-drop 1 p in
+        ap₂ configBytes (sym (of-lora p refl t)) (sym (word-none p refl (omega arith)) ∙ sym (no-more q 15 (omega arith)))
+        ∙ ap (λ (bs : List ℕ). LORA ∷ bs) (lora-same q bytes (omega arith))
+        ∙ whole t (omega arith)
+    go (is-fsk t h k) e =
+        let n = eqb-true (17 + get sync-word-len q) (length p) e in
+        let l = length-drop 1 p in
+        ap₂
+        configBytes
+        (sym (of-fsk p refl (omega arith)))
+        (sym (word-some p refl t refl) ∙ the-rest p 17 (get sync-word-len q) (omega arith) ∙ sym (drop-drop 16 1 p))
+        ∙ ap (λ (bs : List ℕ). FSK ∷ bs) (fsk-same q bytes (omega arith))
+        ∙ whole t (omega arith)
+    go is-wrong e = absurd (true≢false (sym e))

@@ -1,3 +1,3 @@
-mod Rows
+pub mod Rows
 pub mod Laws
 pub mod Examples

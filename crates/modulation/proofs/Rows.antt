@@ -81,13 +81,13 @@ word-byte p h = get-byte 16 p h ∙ ap (λ (q : List ℕ). number (take 1 q)) (s
 -- which row a payload has, with what its size rests on
 pub data Row (p : List ℕ) : Form → Type 0 where
   is-lora : get modulation-id p ≡ LORA → Row p (F.Size 16)
-  is-fsk : 17 ≤ length p → get sync-word-len (paramsOf p) ≤ 8 → Row p (F.Size (17 + get sync-word-len (paramsOf p)))
+  is-fsk : get modulation-id p ≡ FSK → 17 ≤ length p → get sync-word-len (paramsOf p) ≤ 8 → Row p (F.Size (17 + get sync-word-len (paramsOf p)))
   is-wrong : Row p F.Wrong
 
 module _ (p : List ℕ) where
   by-word : get modulation-id p ≡ FSK → 17 ≤ length p
       → (get sync-word-len (paramsOf p) ≤ 8) ⊎ (8 < get sync-word-len (paramsOf p)) → Row p (configForm p)
-  by-word t h (inl k) = subst (Row p) (fsk p refl t h refl k) (is-fsk h k)
+  by-word t h (inl k) = subst (Row p) (fsk p refl t h refl k) (is-fsk t h k)
   by-word t h (inr k) = subst (Row p) (long p refl t h refl k) is-wrong
 
   by-length : get modulation-id p ≡ FSK → (17 ≤ length p) ⊎ (length p < 17) → Row p (configForm p)
@@ -107,7 +107,7 @@ module _ (p : List ℕ) where
   room : {f : Form} → Row p f → atLeast f (length p) ≡ true
       → (16 ≤ length p) × ((get modulation-id p ≡ LORA → ⊥) → 17 ≤ length p)
   room (is-lora t) h = (leb-true 16 (length p) h, λ n. absurd (n t))
-  room (is-fsk h k) e = (omega arith, λ n. h)
+  room (is-fsk t h k) e = (omega arith, λ n. h)
   room is-wrong h = absurd (true≢false (sym h))
 
   module _ (h : atLeast (configForm p) (length p) ≡ true) where

@@ -1,0 +1,75 @@
+-- The loop keeps `Turn`: what is left to write, laid on the output as it is, is all, laid on the output as it was.
+-- Assumes nothing.
+use borrow.Author.Needs.{needs}
+use native.Mathlib.Omega.{arith}
+use Rattle.queue.proofs.Laws.{Turn, turn-first, turn-next, turn-last}
+use Rattle.queue.proofs.cancel.Statement.{statement}
+use Rattle.queue.proofs.cancel.Tie as tie
+
+abbrev Inv-loop : tie.InvT-loop
+Inv-loop slot n commands out₀ at k₀ left₀ w₀ out k left w = Turn commands slot n at out₀ k left w out
+
+abbrev μ-loop : tie.MeasureT-loop
+μ-loop slot n commands out₀ at k₀ left₀ w₀ out k left w = left
+
+loop-holds : tie.Need-loop-holds Inv-loop μ-loop
+loop-holds c =
+    turn-first _ _ _ _ _ (c .before .pre .0) (c .before .pre .1)
+
+mul-u16-at : tie.Need-mul-u16-at Inv-loop μ-loop
+mul-u16-at c =
+    omega (arith, c .before .before .loop .inv .below)
+
+add-u16-at : tie.Need-add-u16-at Inv-loop μ-loop
+add-u16-at c =
+    omega (arith, c .before .before .loop .inv .below)
+
+u16-at-requires : tie.Need-u16-at-requires Inv-loop μ-loop
+u16-at-requires c κs =
+    search needs
+
+say-done-requires : tie.Need-say-done-requires Inv-loop μ-loop
+say-done-requires c κs =
+    omega (arith, c .before .before .before .before .loop .inv .fits, c .before .before .before .loop-test .taken)
+
+add-k : tie.Need-add-k Inv-loop μ-loop
+add-k c =
+    omega (arith, c .before .before .before .before .before .before .before .loop .inv .below)
+
+sub-left : tie.Need-sub-left Inv-loop μ-loop
+sub-left c =
+    omega (arith, c .before .before .before .before .before .before .loop-test .taken)
+
+loop-less : tie.Need-loop-less Inv-loop μ-loop
+loop-less c =
+    omega (arith, c .before .before .before .before .before .before .loop-test .taken)
+
+loop-again : tie.Need-loop-again Inv-loop μ-loop
+loop-again c =
+    turn-next (c .before .before .before .before .before .before .before .loop .inv) (c .before .before .before .before .before .before .loop-test .taken) (c .before .before .before .before .u16-at .ensures) (c .before .before .say-done .ensures) (c .before .before .say-done .kept .1 .1 .1 .0)
+
+same-length : tie.Need-same-length Inv-loop μ-loop
+same-length c =
+    c .before .loop .inv .long
+
+returns : tie.Need-returns Inv-loop μ-loop
+returns c =
+    turn-last (c .before .loop .inv) (c .loop-test .left)
+
+pub cancel-spec : {M : Type 1} → statement M
+cancel-spec =
+    tie.close
+    (tie.spec
+    Inv-loop
+    μ-loop
+    loop-holds
+    mul-u16-at
+    add-u16-at
+    u16-at-requires
+    say-done-requires
+    add-k
+    sub-left
+    loop-less
+    loop-again
+    same-length
+    returns)

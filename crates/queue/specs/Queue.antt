@@ -1,0 +1,77 @@
+-- A TX starts, those that wait are cancelled, the radio is configured, and what comes after a TX: 01 "What each event does".
+-- Assumes nothing.
+use Prim.Native.Nat.{ℕ, zero, suc, _+_, _*_, _%_, min}
+use mathlib.Core.Bool.{Bool, true, false, cond}
+use mathlib.Core.List.{List, [], _∷_, map}
+use lib.Dec.{eqb}
+use lib.ListN.{getD}
+use Rattle.modulation.specs.Modulations.{LORA}
+use Rattle.board.specs.Board.{txMax}
+use Rattle.board.specs.Ldro.{slow}
+use Rattle.device.specs.Messages.{Frame, seen, cancelled}
+use Rattle.control.specs.declared.Mode.{Mode}
+use Rattle.control.specs.declared.Mode.the-variants.{Unconfigured, Lora, Fsk}
+use Rattle.control.specs.declared.Radio.{Radio}
+use Rattle.control.specs.declared.Radio.the-variants.{Free, Listening, OnAir, Configuring}
+use Rattle.control.specs.declared.Device.{Device}
+use Rattle.control.specs.declared.Order.the-variants.{Configure, Transmit}
+use Rattle.control.specs.Control.{air, withAir, Done, taken, idle}
+use Rattle.queue.specs.Slots.{slotSize, setting, lenAt, tagAt, headAt}
+
+-- ---- a TX starts
+
+-- it listens first only under LoRa, with skip_cad 0
+abbrev pub listens : Mode → ℕ → Bool
+listens Unconfigured f = false
+listens Lora f = eqb f 0
+listens Fsk f = false
+
+abbrev pub begun : Bool → ℕ → Radio
+begun true t = Listening t
+begun false t = OnAir t
+
+-- the TX in slot k starts, and n wait in the slots after it
+unfoldable pub start : List ℕ → ℕ → ℕ → Device → Done
+start m k n d =
+    let first = listens (d .mode) (headAt m k) in
+    taken (withAir d (air (begun first (tagAt m k)) false ((k + 1) % txMax) n)) [] (Transmit (k * slotSize + 4) (lenAt m k) first)
+
+-- ---- those that wait
+
+-- the tags in n slots of the ring, from slot k on
+unfoldable pub waitingTags : List ℕ → ℕ → ℕ → List ℕ
+waitingTags m k zero = []
+waitingTags m k (suc n) = tagAt m k ∷ waitingTags m ((k + 1) % txMax) n
+
+-- TX_DONE 2 for each
+abbrev pub cancels : List ℕ → List Frame
+cancels ts = map seen (cancelled ts)
+
+-- ---- the radio is configured
+
+-- LDRO by the modulation, sf and bw of the SET_CONFIG: P 10.1 has sf at 4 and bw at 5
+unfoldable pub ldroAt : List ℕ → Bool
+ldroAt m =
+    cond (eqb (headAt m setting) LORA) (slow (getD m (setting * slotSize + 8) 0) (getD m (setting * slotSize + 9) 0))
+    false
+
+-- the TX that wait are cancelled, sixteen at most, and the radio is configured as the SET_CONFIG says
+unfoldable pub begin : List ℕ → Device → Done
+begin m d =
+    record {
+      next = withAir d (air Configuring false (d .air .first) 0);
+      number = 0;
+      said = cancels (waitingTags m (d .air .first % txMax) (min (d .air .waiting) txMax));
+      order = Configure (setting * slotSize + 3) (lenAt m setting + 1) (ldroAt m);
+    }
+
+-- ---- after a TX
+
+-- a waiting SET_CONFIG; else the oldest waiting TX; else receive or standby
+abbrev pub next : Bool → ℕ → List ℕ → Device → Done
+next true n m d = begin m d
+next false zero m d = taken (withAir d (air Free false (d .air .first) 0)) [] (idle (d .inbox .receiving))
+next false (suc n) m d = start m (d .air .first % txMax) n d
+
+unfoldable pub afterTx : List ℕ → Device → Done
+afterTx m d = next (d .air .pending) (d .air .waiting) m d

@@ -1,0 +1,216 @@
+// The commands that were taken and are not done: the TX that are with the radio or wait, and the
+// SET_CONFIG that waits or runs. Their bytes stand in lent memory, in slots; helpers of the events.
+ghost use mathlib.Core.Path.{_≡_};
+ghost use Prim.Native.Nat.{_+_, _*_, _≤_, _<_, min};
+ghost use lib.ListN.{length, getD, replicate};
+ghost use Rattle.control.specs.Control.{Gives, answerOf};
+ghost use Rattle.wire.specs.Wire.{sends};
+ghost use Rattle.buffer.specs.Lay.{lay};
+ghost use Rattle.queue.specs.Slots.{commandsSize, slotBytes, kept};
+ghost use Rattle.queue.specs.Queue.{listens, begun, start, waitingTags, cancels, ldroAt, begin, afterTx};
+use control::Air;
+use control::Answer;
+use control::Device;
+use control::Mode;
+use control::Order;
+use control::Radio;
+
+// So many TX can be open: 01 "What the firmware covers".
+pub const TX_MAX: usize = 16;
+// A slot: the payload's length less one, the tag, and the payload of up to 256 bytes.
+pub const SLOT_SIZE: usize = 259;
+// Where the tag stands in it, the payload, and what comes after the payload's first byte.
+pub const TAG: usize = 1;
+
+pub const PAYLOAD: usize = 3;
+
+const REST: usize = 4;
+// The slot of the SET_CONFIG, after those of the TX.
+pub const SETTING: usize = 16;
+// The memory of commands: seventeen slots.
+pub const COMMANDS: usize = 4403;
+// Where sf and bw stand in the payload of a SET_CONFIG: P 10.1, after the modulation.
+const SF: usize = 5;
+
+const BW: usize = 6;
+
+// P 6.10: the result of a TX that was cancelled.
+pub const CANCELLED: u8 = 2;
+
+// The memory of commands at power-up.
+pub fn empty_commands() -> [u8; COMMANDS]
+    ensures { λ r. ⌜ r ≡ replicate commandsSize 0 ⌝ }
+{
+    [0; COMMANDS]
+}
+
+// Puts a command into a slot.
+pub fn keep(slot: usize, tag: u16, payload: &[u8], commands: &mut [u8; COMMANDS])
+    requires { ⌜ slot ≤ 16 ⌝ }
+    requires { ⌜ (1 ≤ length (now payload)) × (length (now payload) ≤ 256) ⌝ }
+    ensures { λ _. ⌜ now (commands .exit) ≡ kept (now (commands .entry)) slot tag (now (payload .entry)) ⌝ }
+{
+    put(slot * SLOT_SIZE, tag, payload, commands);
+}
+
+// Writes a command to memory, from index at on.
+fn put(at: usize, tag: u16, payload: &[u8], memory: &mut [u8])
+    requires { ⌜ at + (3 + length (now payload)) ≤ length (now memory) ⌝ }
+    requires { ⌜ (1 ≤ length (now payload)) × (length (now payload) ≤ 256) ⌝ }
+    ensures { λ _. ⌜ now (memory .exit) ≡ lay at (slotBytes tag (now (payload .entry))) (now (memory .entry)) ⌝ }
+{
+    let t = scalar::bytes_of_u16(tag);
+    memory[at] = (payload.len() - 1) as u8;
+    buffer::copy(&t, memory, at + TAG);
+    buffer::copy(payload, memory, at + PAYLOAD);
+}
+
+// The length that stands at an index.
+pub fn len_at(commands: &[u8], at: usize) -> usize
+    requires { ⌜ at < length (now commands) ⌝ }
+    ensures { λ r. ⌜ (r ≡ getD (now (commands .entry)) at 0) × (r ≤ 255) ⌝ }
+{
+    commands[at] as usize
+}
+
+// Whether a TX listens first.
+fn listens(mode: Mode, flags: u8) -> bool
+    ensures { λ r. ⌜ r ≡ listens mode flags ⌝ }
+{
+    match mode {
+        Mode::Unconfigured => false,
+        Mode::Lora => flags == 0,
+        Mode::Fsk => false,
+    }
+}
+
+// The radio with a TX that has started.
+fn begun(listen: bool, tag: u16) -> Radio
+    ensures { λ r. ⌜ r ≡ begun listen tag ⌝ }
+{
+    if listen {
+        return Radio::Listening(tag);
+    }
+    Radio::OnAir(tag)
+}
+
+// The TX in a slot starts; so many wait in the slots after it.
+pub fn start(d: Device, slot: usize, waiting: u8, commands: &[u8; COMMANDS], at: usize) -> Answer
+    requires { ⌜ slot < 16 ⌝ }
+    ensures { λ r. ⌜ r ≡ answerOf at (start (now (commands .entry)) slot waiting d) ⌝ }
+{
+    let base = slot * SLOT_SIZE;
+    let len = len_at(commands, base);
+    let tag = scalar::u16_at(commands, base + TAG);
+    let mode = d.mode;
+    let listen = listens(mode, commands[base + PAYLOAD]);
+    let radio = begun(listen, tag);
+    let first = ((slot + 1) % TX_MAX) as u8;
+    let air = Air {
+        radio,
+        pending: false,
+        first,
+        waiting,
+    };
+    let e = control::with_air(d, air);
+    let order = Order::Transmit {
+        at: base + REST,
+        len,
+        listen,
+    };
+    control::accept(e, at, order)
+}
+
+// Writes a TX_DONE 2 for each of n waiting TX, from a slot on, and answers where they end.
+fn cancel(slot: usize, n: usize, commands: &[u8; COMMANDS], out: &mut [u8], at: usize) -> usize
+    requires { ⌜ (slot < 16) × (at + 12 * n ≤ length (now out)) ⌝ }
+    ensures { λ r. ⌜ r ≡ at + length (sends (cancels (waitingTags (now (commands .entry)) slot n))) ⌝ }
+    ensures { λ r. ⌜ now (out .exit) ≡ lay at (sends (cancels (waitingTags (now (commands .entry)) slot n))) (now (out .entry)) ⌝ }
+{
+    let mut k = slot;
+    let mut left = n;
+    let mut w = at;
+    while 0 < left {
+        let tag = scalar::u16_at(commands, k * SLOT_SIZE + TAG);
+        w = wire::say_done(CANCELLED, 0, tag, out, w);
+        k = (k + 1) % TX_MAX;
+        left -= 1;
+    }
+    w
+}
+
+// So many TX wait: sixteen at most.
+fn few(n: u8) -> usize
+    ensures { λ r. ⌜ r ≡ min n 16 ⌝ }
+{
+    let waiting = n as usize;
+    if TX_MAX < waiting {
+        return TX_MAX;
+    }
+    waiting
+}
+
+// LDRO of the SET_CONFIG.
+fn ldro(commands: &[u8; COMMANDS]) -> bool
+    ensures { λ r. ⌜ r ≡ ldroAt (now (commands .entry)) ⌝ }
+{
+    let at = SETTING * SLOT_SIZE + PAYLOAD;
+    let id = commands[at];
+    if id == modulation::LORA {
+        return board::slow(commands[at + SF], commands[at + BW]);
+    }
+    false
+}
+
+// The waiting TX are cancelled, and the radio is configured.
+pub fn configure(d: Device, commands: &[u8; COMMANDS], out: &mut [u8], at: usize) -> Answer
+    requires { ⌜ at + 192 ≤ length (now out) ⌝ }
+    ensures { λ r. ⌜ Gives (begin (now (commands .entry)) d) (now (out .entry)) at r (now (out .exit)) ⌝ }
+{
+    let was = d.air;
+    let first = was.first;
+    let slot = first as usize % TX_MAX;
+    let n = few(was.waiting);
+    let w = cancel(slot, n, commands, out, at);
+    let air = Air {
+        radio: Radio::Configuring,
+        pending: false,
+        first,
+        waiting: 0,
+    };
+    let e = control::with_air(d, air);
+    let base = SETTING * SLOT_SIZE;
+    let len = len_at(commands, base);
+    let order = Order::Configure {
+        at: base + PAYLOAD,
+        len: len + 1,
+        ldro: ldro(commands),
+    };
+    control::accept(e, w, order)
+}
+
+// What comes after a TX.
+pub fn after_tx(d: Device, commands: &[u8; COMMANDS], out: &mut [u8], at: usize) -> Answer
+    requires { ⌜ at + 192 ≤ length (now out) ⌝ }
+    ensures { λ r. ⌜ Gives (afterTx (now (commands .entry)) d) (now (out .entry)) at r (now (out .exit)) ⌝ }
+{
+    let was = d.air;
+    if was.pending {
+        return configure(d, commands, out, at);
+    }
+    let first = was.first;
+    let waiting = was.waiting;
+    if 0 < waiting {
+        let slot = first as usize % TX_MAX;
+        return start(d, slot, waiting - 1, commands, at);
+    }
+    let air = Air {
+        radio: Radio::Free,
+        pending: false,
+        first,
+        waiting: 0,
+    };
+    let receiving = d.inbox.receiving;
+    let e = control::with_air(d, air);
+    control::accept(e, at, control::idle(receiving))
+}
