@@ -1,0 +1,195 @@
+// Two of the ten events, reception: packet and request. 01 "What each event does".
+ghost use mathlib.Core.Path.{_≡_};
+ghost use Prim.Native.Nat.{_+_, _≤_, _<_};
+ghost use mathlib.Core.List.{[]};
+ghost use lib.ListN.{length, replicate};
+ghost use Rattle.buffer.specs.Lay.{lay};
+ghost use Rattle.kind.specs.Kinds as K;
+ghost use Rattle.device.specs.Messages.{frame, rxValue};
+ghost use Rattle.device.specs.Messages as M;
+ghost use Rattle.device.specs.Events.{cut};
+ghost use Rattle.wire.specs.Wire.{Says};
+ghost use Rattle.inbox.specs.Packets.{packetsSize, slotBytes, kept, counted, payloadAt, packetOf, more, packetDone, requestDone, Keeps, Delivers};
+use control::Answer;
+use control::Device;
+use control::Inbox;
+use control::Order;
+use control::ROOM_MIN;
+use kind::RX;
+use numbers::PLACE;
+use numbers::ROOM;
+use rx::RX_SIZE;
+use rx::Rx;
+
+// So many packets are held: 01 "What the firmware covers".
+pub const RING_MAX: usize = 64;
+// A slot: the packet's length, RX's fields, and a packet of up to 255 bytes.
+pub const SLOT_SIZE: usize = 276;
+// The memory of packets: 64 slots.
+pub const PACKETS: usize = 17664;
+// The longest packet.
+const PACKET_MAX: usize = 255;
+// Where the drop count stands among RX's fields: P 6.9.
+const DROPPED: usize = 17;
+// The highest drop count.
+const DROPS_MAX: u16 = 65535;
+
+// What the radio has heard of a packet beside its bytes: RX's values, without those that the device
+// adds.
+pub struct Heard {
+    pub rssi: i16,
+    pub snr: i16,
+    pub freq: i32,
+    pub time: u64,
+    pub crc: bool,
+}
+
+// The memory of packets at power-up.
+pub fn empty_packets() -> [u8; PACKETS]
+    ensures { λ r. ⌜ r ≡ replicate packetsSize 0 ⌝ }
+{
+    [0; PACKETS]
+}
+
+// A packet was received: its bytes go into the ring. It writes nothing, and asks only for the room
+// that an event's output must have.
+pub fn packet(d: Device, h: Heard, bytes: &[u8], packets: &mut [u8; PACKETS], room: usize) -> Answer
+    ensures { λ r. ⌜ Keeps (packetDone room (packetOf h (now (bytes .entry))) (now (packets .entry)) d) r (now (packets .exit)) ⌝ }
+{
+    if room < ROOM_MIN {
+        return control::refuse(d, ROOM);
+    }
+    let i = d.inbox;
+    let air = d.air;
+    let radio = air.radio;
+    if i.receiving & control::is_free(radio) {
+        let slot = (i.first as usize + i.held as usize) % RING_MAX;
+        keep(slot, h, bytes, packets);
+        let e = control::with_inbox(d, more(i));
+        return control::accept(e, 0, Order::Nothing);
+    }
+    control::refuse(d, PLACE)
+}
+
+// One packet more.
+fn more(i: Inbox) -> Inbox
+    ensures { λ r. ⌜ r ≡ more i ⌝ }
+{
+    let held = i.held as usize;
+    if held < RING_MAX {
+        return Inbox {
+            receiving: i.receiving,
+            first: i.first,
+            held: i.held + 1,
+            drops: i.drops,
+        };
+    }
+    let first = (i.first % 64 + 1) % 64;
+    if i.drops < DROPS_MAX {
+        return Inbox {
+            receiving: i.receiving,
+            first,
+            held: i.held,
+            drops: i.drops + 1,
+        };
+    }
+    Inbox {
+        receiving: i.receiving,
+        first,
+        held: i.held,
+        drops: DROPS_MAX,
+    }
+}
+
+// Puts a packet into a slot; one over 255 bytes is cut.
+fn keep(slot: usize, h: Heard, bytes: &[u8], packets: &mut [u8; PACKETS])
+    requires { ⌜ slot < 64 ⌝ }
+    ensures { λ _. ⌜ now (packets .exit) ≡ kept (now (packets .entry)) slot (cut (packetOf h (now (bytes .entry)))) ⌝ }
+{
+    let at = slot * SLOT_SIZE;
+    if PACKET_MAX < bytes.len() {
+        let mut wrong = h;
+        wrong.crc = false;
+        put(at, wrong, &bytes[..PACKET_MAX], packets);
+        return;
+    }
+    put(at, h, bytes, packets);
+}
+
+// Yes or no as a byte.
+fn yes(b: bool) -> u8
+    ensures { λ r. ⌜ r ≡ M.yes b ⌝ }
+{
+    if b {
+        return 1;
+    }
+    0
+}
+
+// RX's values of what was heard, without a drop count.
+fn fields_of(h: Heard) -> Rx
+    ensures { λ r. ⌜ r ≡ rxValue (packetOf h []) 0 ⌝ }
+{
+    Rx {
+        rssi: h.rssi,
+        snr: h.snr,
+        freq_err: h.freq,
+        timestamp_us: h.time,
+        crc_valid: yes(h.crc),
+        packets_dropped: 0,
+        origin: 0,
+    }
+}
+
+// Writes a packet to memory, from index at on.
+fn put(at: usize, h: Heard, bytes: &[u8], memory: &mut [u8])
+    requires { ⌜ length (now bytes) ≤ 255 ⌝ }
+    requires { ⌜ at + 276 ≤ length (now memory) ⌝ }
+    ensures { λ _. ⌜ now (memory .exit) ≡ lay at (slotBytes (packetOf h (now (bytes .entry)))) (now (memory .entry)) ⌝ }
+{
+    let fields = rx::rx_bytes(fields_of(h));
+    memory[at] = bytes.len() as u8;
+    buffer::copy(&fields, memory, at + 1);
+    buffer::copy(bytes, memory, at + 1 + RX_SIZE);
+}
+
+// The host asks for a packet: the oldest is delivered with the drop count.
+pub fn request(d: Device, packets: &mut [u8; PACKETS], out: &mut [u8]) -> Answer
+    ensures { λ r. ⌜ Delivers (requestDone (length (now (out .entry))) (now (packets .entry)) d) (now (out .entry)) r (now (out .exit)) (now (packets .exit)) ⌝ }
+{
+    if out.len() < ROOM_MIN {
+        return control::refuse(d, ROOM);
+    }
+    let i = d.inbox;
+    let held = i.held;
+    if held == 0 {
+        return control::accept(d, 0, Order::Nothing);
+    }
+    let slot = (i.first % 64) as usize;
+    let w = deliver(slot, i.drops, packets, out);
+    let first = ((slot + 1) % RING_MAX) as u8;
+    let inbox = Inbox {
+        receiving: i.receiving,
+        first,
+        held: held - 1,
+        drops: 0,
+    };
+    let e = control::with_inbox(d, inbox);
+    control::accept(e, w, Order::Nothing)
+}
+
+// Writes the RX in a slot, with the drop count put into it, and answers where it ends.
+fn deliver(slot: usize, drops: u16, packets: &mut [u8], out: &mut [u8]) -> usize
+    requires { ⌜ slot < 64 ⌝ }
+    requires { ⌜ length (now packets) ≡ 17664 ⌝ }
+    requires { ⌜ 283 ≤ length (now out) ⌝ }
+    ensures { λ _. ⌜ now (packets .exit) ≡ counted (now (packets .entry)) slot drops ⌝ }
+    ensures { λ r. ⌜ Says (frame K.RX 0 (payloadAt (counted (now (packets .entry)) slot drops) slot)) (now (out .entry)) 0 r (now (out .exit)) ⌝ }
+{
+    let at = slot * SLOT_SIZE;
+    let n = packets[at] as usize;
+    let count = scalar::bytes_of_u16(drops);
+    let first = at + 1;
+    buffer::copy(&count, packets, first + DROPPED);
+    wire::say(RX, 0, &packets[first..first + RX_SIZE + n], out, 0)
+}

@@ -1,0 +1,45 @@
+-- The ERR has the tag of the SET_CONFIG; the rest is the definition's, field by field.
+-- Assumes nothing.
+use Rattle.control.proofs.Laws.{spoken}
+use Rattle.outcome.proofs.Laws.{from-start}
+use borrow.Author.Needs.{needs}
+use Rattle.outcome.proofs.failed.Statement.{statement}
+use Rattle.outcome.proofs.failed.Tie as tie
+
+with-radio-requires : tie.Need-with-radio-requires
+with-radio-requires c κs = search needs
+
+mul-u16-at : tie.Need-mul-u16-at
+mul-u16-at c = search needs
+
+add-u16-at : tie.Need-add-u16-at
+add-u16-at c = search needs
+
+u16-at-requires : tie.Need-u16-at-requires
+u16-at-requires c κs = search needs
+
+note-requires : tie.Need-note-requires
+note-requires c κs = search needs
+
+accept-requires : tie.Need-accept-requires
+accept-requires c κs = search needs
+
+same-length : tie.Need-same-length
+same-length c = search needs
+
+returns : tie.Need-returns
+returns c =
+    spoken _ _ _ (from-start (rw (c .before .before .before .before .before .before .before .u16-at .ensures) at (c .before .before .before .note .ensures))) (rw (c .before .before .before .before .before .before .before .before .before .with-radio .ensures) at (c .accept .ensures))
+
+pub failed-spec : {M : Type 1} → statement M
+failed-spec =
+    tie.close
+    (tie.spec
+    with-radio-requires
+    mul-u16-at
+    add-u16-at
+    u16-at-requires
+    note-requires
+    accept-requires
+    same-length
+    returns)

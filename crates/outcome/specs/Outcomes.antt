@@ -1,0 +1,102 @@
+-- The radio's outcomes, item by item: 01 "What each event does". `m` is the memory of commands.
+-- Assumes nothing.
+use Prim.Native.Nat.{ℕ}
+use mathlib.Core.Bool.{Bool, true, false, cond}
+use mathlib.Core.List.{List, [], _∷_, map}
+use lib.Dec.{eqb}
+use Rattle.numbers.specs.Numbers.{PLACE}
+use Rattle.kind.specs.Kinds.{OK}
+use Rattle.modulation.specs.Modulations.{LORA}
+use Rattle.device.specs.Messages.{Frame, frame, seen, err, txDone, ERADIO, TRANSMITTED, CHANNEL-BUSY, CANCELLED, APPLIED, MINE}
+use Rattle.device.specs.Events.{heard}
+use Rattle.control.specs.declared.Mode.{Mode}
+use Rattle.control.specs.declared.Mode.the-variants.{Unconfigured, Lora, Fsk}
+use Rattle.control.specs.declared.Radio.{Radio}
+use Rattle.control.specs.declared.Radio.the-variants.{Free, Listening, OnAir, Orphan, Configuring}
+use Rattle.control.specs.declared.Device.{Device}
+use Rattle.control.specs.declared.Order.the-variants.{Nothing, Standby}
+use Rattle.control.specs.Control.{device, withAir, withRadio, Done, taken, refused, within, says}
+use Rattle.queue.specs.Slots.{setting, tagAt, headAt, payloadAt}
+use Rattle.queue.specs.Queue.{afterTx}
+
+-- ---- clear, busy, sent
+
+abbrev pub onClear : Radio → Device → Done
+onClear Free d = refused PLACE d
+onClear (Listening t) d = taken (withAir d (withRadio (d .air) (OnAir t))) [] Nothing
+onClear (OnAir t) d = refused PLACE d
+onClear Orphan d = refused PLACE d
+onClear Configuring d = refused PLACE d
+
+abbrev pub onBusy : Radio → List ℕ → Device → Done
+onBusy Free m d = refused PLACE d
+onBusy (Listening t) m d = says (seen (txDone CHANNEL-BUSY 0 t) ∷ []) (afterTx m d)
+onBusy (OnAir t) m d = refused PLACE d
+onBusy Orphan m d = refused PLACE d
+onBusy Configuring m d = refused PLACE d
+
+abbrev pub onSent : ℕ → Radio → List ℕ → Device → Done
+onSent airtime Free m d = refused PLACE d
+onSent airtime (Listening t) m d = refused PLACE d
+onSent airtime (OnAir t) m d = says (seen (txDone TRANSMITTED airtime t) ∷ []) (afterTx m d)
+onSent airtime Orphan m d = afterTx m d
+onSent airtime Configuring m d = refused PLACE d
+
+-- ---- configured
+
+abbrev pub modeOf : ℕ → Mode
+modeOf id = cond (eqb id LORA) Lora Fsk
+
+-- the OK with result 0, owner 1, and the modulation and parameters as they came
+abbrev pub okConfigured : List ℕ → Frame
+okConfigured m = frame OK (tagAt m setting) (APPLIED ∷ MINE ∷ payloadAt m setting)
+
+abbrev pub inForce : Bool → List ℕ → Device → Done
+inForce true m d =
+    taken (device (modeOf (headAt m setting)) (d .link) (withRadio (d .air) Free) (d .inbox)) (okConfigured m ∷ []) Nothing
+inForce false m d = taken (withAir d (withRadio (d .air) Free)) [] Standby
+
+abbrev pub onConfigured : Radio → List ℕ → Device → Done
+onConfigured Free m d = refused PLACE d
+onConfigured (Listening t) m d = refused PLACE d
+onConfigured (OnAir t) m d = refused PLACE d
+onConfigured Orphan m d = refused PLACE d
+onConfigured Configuring m d = inForce (d .link .session) m d
+
+-- ---- fault
+
+-- ERR(ERADIO) in an open session
+abbrev pub noted : Bool → ℕ → List Frame
+noted session t = map seen (heard session (err ERADIO t))
+
+-- the TX with the radio is reported with 2
+abbrev pub lost : ℕ → List ℕ → Device → Done
+lost t m d = says (noted (d .link .session) 0) (says (seen (txDone CANCELLED 0 t) ∷ []) (afterTx m d))
+
+abbrev pub failed : List ℕ → Device → Done
+failed m d =
+    taken (device Unconfigured (d .link) (withRadio (d .air) Free) (d .inbox)) (noted (d .link .session) (tagAt m setting)) Standby
+
+abbrev pub onFault : Radio → List ℕ → Device → Done
+onFault Free m d = says (noted (d .link .session) 0) (afterTx m d)
+onFault (Listening t) m d = lost t m d
+onFault (OnAir t) m d = lost t m d
+onFault Orphan m d = says (noted (d .link .session) 0) (afterTx m d)
+onFault Configuring m d = failed m d
+
+-- ---- the five outcomes, with output of so much room
+
+unfoldable pub clearDone : ℕ → Device → Done
+clearDone room d = within room d (onClear (d .air .radio) d)
+
+unfoldable pub busyDone : ℕ → List ℕ → Device → Done
+busyDone room m d = within room d (onBusy (d .air .radio) m d)
+
+unfoldable pub sentDone : ℕ → ℕ → List ℕ → Device → Done
+sentDone room airtime m d = within room d (onSent airtime (d .air .radio) m d)
+
+unfoldable pub configuredDone : ℕ → List ℕ → Device → Done
+configuredDone room m d = within room d (onConfigured (d .air .radio) m d)
+
+unfoldable pub faultDone : ℕ → List ℕ → Device → Done
+faultDone room m d = within room d (onFault (d .air .radio) m d)
