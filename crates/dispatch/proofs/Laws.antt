@@ -1,0 +1,165 @@
+-- What the code's tests say by the definitions: the code of an objection and the type of a command choose what is done, and so does the number of the radio's
+-- variant, which is what a match knows of it.
+-- Assumes nothing.
+use Prim.Native.Nat.{ℕ, _<_, _≤_}
+use mathlib.Core.Path.{_≡_, refl, sym, ap, subst, _∙_}
+use mathlib.Core.Bool.{Bool, true, false, cond, not, _&&_}
+use mathlib.Core.List.{List, [], _∷_}
+use mathlib.Core.Logic.{_⊎_, inl, inr}
+use mathlib.Core.Option.{Option, none, some}
+use native.Mathlib.Omega.{arith}
+use denote.Enum.Declared.{tagOf}
+use borrow.Author.Tests.{eq-eqb, ne-eqb}
+use lib.Dec.{leb, eqb}
+use lib.ListN.{length}
+use Rattle.form.proofs.Laws.{exactly-size}
+use Rattle.kind.specs.Kinds.{GET-INFO, SET-CONFIG, TX, RX-START, RX-STOP, isCommand}
+use Rattle.modulation.specs.Modulations.{configForm}
+use Rattle.modulation.proofs.Laws.{form-bounds}
+use Rattle.board.specs.Board.{Board, sx1262, txMax}
+use Rattle.device.specs.Messages.{seen, ok, okInfo, err, EPARAM, ELENGTH, ENOTCONFIGURED, EMODULATION, EUNKNOWN-CMD, EBUSY}
+use Rattle.device.specs.Frames.{needsConfig, strange, sized, good, objects}
+use Rattle.objection.specs.Objection.{codeOf}
+use Rattle.objection.proofs.Laws.{none-tx, none-set}
+use Rattle.control.specs.declared.Radio.{Radio}
+use Rattle.control.specs.declared.Radio.the-variants.{Free, Listening, OnAir, Orphan, Configuring}
+use Rattle.control.specs.declared.Device.{Device}
+use Rattle.control.specs.declared.Order.the-variants.{Nothing}
+use Rattle.control.specs.declared.Answer.{Answer}
+use Rattle.control.specs.Control.{unconfigured, Done, taken, answerOf, Gives}
+use Rattle.control.proofs.Laws.{silent}
+use Rattle.control.proofs.Radio.{the-type}
+use Rattle.queue.specs.Queue.{start, begin}
+use Rattle.dispatch.specs.Commands.{Ruled, ruled, open#, onTx, pends, sets, onSet, turned, onCommand, unless, judged, Rules}
+
+-- ---- what a command gives
+
+-- by another name
+pub rules : {x : Ruled} (y : Ruled) {o o' m' : List ℕ} {r : Answer} → x ≡ y → Rules y o r o' m' → Rules x o r o' m'
+rules y e g = rw e g
+
+-- the memory of commands stays
+pub rules-only : {x : Done} {o o' m : List ℕ} {r : Answer} → Gives x o 0 r o' → Rules (ruled x m) o r o' m
+rules-only g = record { gives = g; commands = refl }
+
+-- ---- TX
+
+-- one that starts says nothing
+pub starts : (m : List ℕ) (k n : ℕ) (d : Device) (o : List ℕ) (at : ℕ) {r : Answer} → r ≡ answerOf at (start m k n d) → Gives (start m k n d) o at r o
+unfolding start
+starts m k n d o at e = silent (start m k n d) o at refl e
+
+-- ---- SET_CONFIG
+
+abbrev number : Radio → ℕ
+number r = tagOf the-type r
+
+module _ (m : List ℕ) (d : Device) where
+  -- with a TX or an orphan on air it waits
+  pub sets-later : (r : Radio) → (number r ≡ 2) ⊎ (number r ≡ 3) → sets r m d ≡ pends d
+  sets-later (OnAir t) k = refl
+  sets-later Orphan k = refl
+  sets-later Free (inl e) = absurd (omega arith)
+  sets-later Free (inr e) = absurd (omega arith)
+  sets-later (Listening t) (inl e) = absurd (omega arith)
+  sets-later (Listening t) (inr e) = absurd (omega arith)
+  sets-later Configuring (inl e) = absurd (omega arith)
+  sets-later Configuring (inr e) = absurd (omega arith)
+
+  -- with no TX it begins
+  pub sets-now : (r : Radio) → (number r ≡ 0) ⊎ (number r ≡ 4) → sets r m d ≡ begin m d
+  sets-now Free k = refl
+  sets-now Configuring k = refl
+  sets-now (Listening t) (inl e) = absurd (omega arith)
+  sets-now (Listening t) (inr e) = absurd (omega arith)
+  sets-now (OnAir t) (inl e) = absurd (omega arith)
+  sets-now (OnAir t) (inr e) = absurd (omega arith)
+  sets-now Orphan (inl e) = absurd (omega arith)
+  sets-now Orphan (inr e) = absurd (omega arith)
+
+-- ---- the objection
+
+-- none of P 7's codes is 0
+passing : (t : Bool) (x : ℕ) (o : Option ℕ) → 0 < x → (codeOf o ≡ 0 → o ≡ none) → codeOf (cond t (some x) o) ≡ 0 → cond t (some x) o ≡ none
+passing true x o h f e = absurd (omega arith)
+passing false x o h f e = f e
+
+no-code : (b : Board) (bare : Bool) (n kind : ℕ) (p : List ℕ) → codeOf (objects b bare n kind p) ≡ 0 → objects b bare n kind p ≡ none
+no-code b bare n kind p =
+    passing (not (isCommand kind)) EUNKNOWN-CMD _ (omega arith)
+    (passing (bare && needsConfig kind) ENOTCONFIGURED _ (omega arith)
+    (passing (eqb kind SET-CONFIG && strange p) EMODULATION _ (omega arith)
+    (passing (not (sized kind p)) ELENGTH _ (omega arith)
+    (passing (not (good b kind p)) EPARAM _ (omega arith)
+    (passing (eqb kind TX && leb txMax n) EBUSY _ (omega arith)
+    (λ e. refl))))))
+
+-- an objection with a code draws an ERR
+with-code : (o : Option ℕ) (kind t : ℕ) (p m : List ℕ) (d : Device) → (codeOf o ≡ 0 → ⊥)
+    → unless o kind t p m d ≡ ruled (taken d (seen (err (codeOf o) t) ∷ []) Nothing) m
+with-code none kind t p m d h = absurd (h refl)
+with-code (some code) kind t p m d h = refl
+
+-- a command as the code judges it: by whether the device is UNCONFIGURED, how many TX are open, and the code of the objection
+module _ (kind : ℕ) (p : List ℕ) (d : Device) {bare : Bool} {n code : ℕ} (b : bare ≡ unconfigured (d .mode)) (o : n ≡ open# (d .air))
+    (c : code ≡ codeOf (objects sx1262 bare n kind p)) where
+  same-code : code ≡ codeOf (objects sx1262 (unconfigured (d .mode)) (open# (d .air)) kind p)
+  same-code = rw (b, o) at c
+
+  none-as : code ≡ 0 → {k : ℕ} → kind ≡ k → objects sx1262 (unconfigured (d .mode)) (open# (d .air)) k p ≡ none
+  none-as z e =
+      subst (λ (k : ℕ). objects sx1262 (unconfigured (d .mode)) (open# (d .air)) k p ≡ none) e
+      (no-code sx1262 (unconfigured (d .mode)) (open# (d .air)) kind p (sym same-code ∙ z))
+
+  -- what is taken fits its slot
+  pub tx-fits : code ≡ 0 → kind ≡ TX → ((1 ≤ length p) × (length p ≤ 256)) × (open# (d .air) < 16)
+  tx-fits z e = let k = none-tx sx1262 (unconfigured (d .mode)) (open# (d .air)) p (none-as z e) in ((omega arith, k .most), k .room)
+
+  pub set-fits : code ≡ 0 → kind ≡ SET-CONFIG → (1 ≤ length p) × (length p ≤ 256)
+  set-fits z e =
+      let k = none-set sx1262 (unconfigured (d .mode)) (open# (d .air)) p (none-as z e) in
+      let s = form-bounds p (length p) (exactly-size (configForm p) (length p) k) in
+      (omega arith, omega arith)
+
+  module _ (t : ℕ) (m : List ℕ) where
+    pub as-err : (code ≡ 0 → ⊥) → judged kind t p m d ≡ ruled (taken d (seen (err code t) ∷ []) Nothing) m
+    unfolding judged
+    as-err h =
+        with-code (objects sx1262 (unconfigured (d .mode)) (open# (d .air)) kind p) kind t p m d (λ z. h (same-code ∙ z))
+        ∙ ap (λ (k : ℕ). ruled (taken d (seen (err k t) ∷ []) Nothing) m) (sym same-code)
+
+    -- and without objection, by its type
+    module _ (z : code ≡ 0) where
+      obeyed : judged kind t p m d ≡ onCommand kind t p m d
+      unfolding judged
+      obeyed = ap (λ (x : Option ℕ). unless x kind t p m d) (none-as z refl)
+
+      pub as-tx : kind ≡ TX → judged kind t p m d ≡ onTx t p m d
+      as-tx e = obeyed ∙ simp (eq-eqb kind TX e)
+
+      module _ (not-tx : kind ≡ TX → ⊥) where
+        pub as-set : kind ≡ SET-CONFIG → judged kind t p m d ≡ onSet t p m d
+        as-set e = obeyed ∙ simp (ne-eqb kind TX not-tx, eq-eqb kind SET-CONFIG e)
+
+        module _ (not-set : kind ≡ SET-CONFIG → ⊥) where
+          pub as-start : kind ≡ RX-START → judged kind t p m d ≡ ruled (turned true t d) m
+          as-start e = obeyed ∙ simp (ne-eqb kind TX not-tx, ne-eqb kind SET-CONFIG not-set, eq-eqb kind RX-START e)
+
+          module _ (not-start : kind ≡ RX-START → ⊥) where
+            pub as-stop : kind ≡ RX-STOP → judged kind t p m d ≡ ruled (turned false t d) m
+            as-stop e =
+                obeyed
+                ∙ simp (ne-eqb kind TX not-tx, ne-eqb kind SET-CONFIG not-set, ne-eqb kind RX-START not-start, eq-eqb kind RX-STOP e)
+
+            module _ (not-stop : kind ≡ RX-STOP → ⊥) where
+              pub as-info : kind ≡ GET-INFO → judged kind t p m d ≡ ruled (taken d (seen (okInfo sx1262 t) ∷ []) Nothing) m
+              as-info e =
+                  obeyed
+                  ∙ simp
+                  (ne-eqb kind TX not-tx, ne-eqb kind SET-CONFIG not-set, ne-eqb kind RX-START not-start, ne-eqb kind RX-STOP not-stop, eq-eqb kind GET-INFO e)
+
+              pub as-ping : (kind ≡ GET-INFO → ⊥) → judged kind t p m d ≡ ruled (taken d (seen (ok t) ∷ []) Nothing) m
+              as-ping e =
+                  obeyed
+                  ∙ simp
+                  (ne-eqb kind TX not-tx, ne-eqb kind SET-CONFIG not-set, ne-eqb kind RX-START not-start, ne-eqb kind RX-STOP not-stop, ne-eqb kind GET-INFO e)

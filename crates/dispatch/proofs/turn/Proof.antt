@@ -1,0 +1,62 @@
+-- The OK is said first, and the test is the definition's.
+use Rattle.wire.proofs.Laws.{sent-one}
+use Rattle.control.proofs.Laws.{spoken}
+use Rattle.dispatch.specs.Commands.{turned}
+use borrow.Author.Needs.{needs}
+use Rattle.dispatch.proofs.turn.Statement.{statement}
+use Rattle.dispatch.proofs.turn.Tie as tie
+
+say-ok-requires : tie.Need-say-ok-requires
+say-ok-requires c κs = search needs
+
+with-inbox-requires : tie.Need-with-inbox-requires
+with-inbox-requires c κs = search needs
+
+is-free-requires : tie.Need-is-free-requires
+is-free-requires c κs = search needs
+
+changed-requires : tie.Need-changed-requires
+changed-requires c κs = search needs
+
+idle-requires : tie.Need-idle-requires
+idle-requires c κs = search needs
+
+accept-requires : tie.Need-accept-requires
+accept-requires c κs = search needs
+
+same-length : tie.Need-same-length
+same-length c = search needs
+
+returns : tie.Need-returns
+unfolding turned
+returns c =
+    let e = rw (c .before .before .before .before .is-free .ensures, c .before .before .before .changed .ensures) at (c .before .before .if1 .taken) in
+    simp e (spoken _ _ _ (sent-one (c .before .before .before .before .before .before .before .before .say-ok .ensures)) (rw (c .before .before .before .before .before .with-inbox .ensures, c .before .idle .ensures) at (c .accept .ensures)))
+
+accept-requires-2 : tie.Need-accept-requires-2
+accept-requires-2 c κs = search needs
+
+same-length-2 : tie.Need-same-length-2
+same-length-2 c = search needs
+
+returns-2 : tie.Need-returns-2
+unfolding turned
+returns-2 c =
+    let e = rw (c .before .before .before .is-free .ensures, c .before .before .changed .ensures) at (c .before .if1 .left) in
+    simp e (spoken _ _ _ (sent-one (c .before .before .before .before .before .before .before .say-ok .ensures)) (rw (c .before .before .before .before .with-inbox .ensures) at (c .accept2 .ensures)))
+
+pub turn-spec : {M : Type 1} → statement M
+turn-spec =
+    tie.close
+    (tie.spec
+    say-ok-requires
+    with-inbox-requires
+    is-free-requires
+    changed-requires
+    idle-requires
+    accept-requires
+    same-length
+    returns
+    accept-requires-2
+    same-length-2
+    returns-2)

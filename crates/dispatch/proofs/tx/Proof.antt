@@ -1,0 +1,82 @@
+-- The OK is said first, and then the TX starts or waits, by the definition's test.
+-- Assumes nothing.
+use Rattle.wire.proofs.Laws.{sent-one}
+use Rattle.control.proofs.Laws.{quiet, then}
+use Rattle.dispatch.specs.Commands.{onTx}
+use Rattle.dispatch.proofs.Laws.{starts}
+use borrow.Author.Needs.{needs}
+use Rattle.dispatch.proofs.tx.Statement.{statement}
+use Rattle.dispatch.proofs.tx.Tie as tie
+
+cast-slot : tie.Need-cast-slot
+cast-slot c = search needs
+
+cast-slot-2 : tie.Need-cast-slot-2
+cast-slot-2 c = search needs
+
+add-slot : tie.Need-add-slot
+add-slot c = search needs
+
+keep-requires : tie.Need-keep-requires
+keep-requires c κs = search needs
+
+say-ok-requires : tie.Need-say-ok-requires
+say-ok-requires c κs = search needs
+
+is-free-requires : tie.Need-is-free-requires
+is-free-requires c κs = search needs
+
+start-requires : tie.Need-start-requires
+start-requires c κs = search needs
+
+same-length : tie.Need-same-length
+same-length c = search needs
+
+returns : tie.Need-returns
+unfolding onTx
+returns c =
+    let e = rw (c .before .before .before .is-free .ensures) at (c .before .before .if1 .taken) in
+    record {
+      gives = simp e (then (sent-one (c .before .before .before .before .before .before .say-ok .ensures)) (starts _ _ _ _ _ _ (rw (c .before .before .before .before .before .before .before .before .keep .ensures) at (c .start .ensures))));
+      commands = c .before .before .before .before .before .before .before .before .keep .ensures;
+    }
+
+add-more : tie.Need-add-more
+add-more c = search needs
+
+with-air-requires : tie.Need-with-air-requires
+with-air-requires c κs = search needs
+
+accept-requires : tie.Need-accept-requires
+accept-requires c κs = search needs
+
+same-length-2 : tie.Need-same-length-2
+same-length-2 c = search needs
+
+returns-2 : tie.Need-returns-2
+unfolding onTx
+returns-2 c =
+    let e = rw (c .before .before .before .is-free .ensures) at (c .before .before .if1 .left) in
+    record {
+      gives = simp e (then (sent-one (c .before .before .before .before .before .before .say-ok .ensures)) (quiet _ _ _ _ _ (rw (c .before .with-air .ensures) at (c .accept .ensures))));
+      commands = c .before .before .before .before .before .before .before .before .keep .ensures;
+    }
+
+pub tx-spec : {M : Type 1} → statement M
+tx-spec =
+    tie.close
+    (tie.spec
+    cast-slot
+    cast-slot-2
+    add-slot
+    keep-requires
+    say-ok-requires
+    is-free-requires
+    start-requires
+    same-length
+    returns
+    add-more
+    with-air-requires
+    accept-requires
+    same-length-2
+    returns-2)

@@ -1,0 +1,67 @@
+-- The demands on the device in code after any list of calls from power-up: carried over from the device of the definition, since the two go in step.
+-- Assumes nothing.
+use mathlib.Core.Path.{_≡_, refl, ap, _∙_}
+use mathlib.Core.List.{List, map}
+use Prim.Native.Nat.{ℕ}
+use Rattle.scalar.specs.Bytes.{Each}
+use Rattle.scalar.proofs.Bytes.{each-right}
+use Rattle.board.specs.Board.{sx1262}
+use Rattle.device.specs.State.{State, tagsOf}
+use Rattle.device.specs.State as S
+use Rattle.device.specs.Events.{step}
+use Rattle.device.specs.Demands.{defined, history, Demand2Wire, Demand3, InTime, DropCount}
+use Rattle.device.proofs.Back.{TagIn}
+use Rattle.device.proofs.Ranges.{sx1262-in}
+use Rattle.device.proofs.History as H
+use Rattle.device.proofs.Carrying.{InStep, given-in, demand2-wire-carried, demand3-carried, in-time-carried, drop-count-carried}
+use Rattle.control.specs.declared.Radio.{Radio}
+use Rattle.queue.specs.Queue.{waitingTags}
+use Rattle.joint.specs.Machine.{Machine, Call, held}
+use Rattle.joint.specs.Joined.{Memories, inputOf, CallIn}
+use Rattle.joint.specs.Demands.{coded}
+use Rattle.joint.proofs.Stands.{RadioAs, as-free, as-listening, as-onAir, as-orphan, as-configuring}
+use Rattle.joint.proofs.Outcomes.{tags-wait}
+use Rattle.joint.proofs.Joint.{Meets, same-reply, meets-next, meets-first}
+
+same-held : {m : List ℕ} {r : Radio} {q : S.Radio} → RadioAs m r q → held r ≡ S.held q
+same-held as-free = refl
+same-held as-listening = refl
+same-held as-onAir = refl
+same-held as-orphan = refl
+same-held (as-configuring x) = refl
+
+same-waiting : (y : Machine) (s : State) → Meets y s → waitingTags (y .commands) (y .device .air .first) (y .device .air .waiting) ≡ tagsOf (s .air .waiting)
+same-waiting y s h =
+    let a = h .stands .air in
+    ap (waitingTags (y .commands) (y .device .air .first)) (a .count)
+    ∙ tags-wait (y .commands) (y .device .air .first) (s .air .waiting) (a .ring)
+    (each-right TagIn (S.held (s .air .radio)) (tagsOf (s .air .waiting)) (h .ranges .air .tags))
+
+pub in-step : (w : Memories) → InStep (coded w) (defined sx1262) inputOf Meets
+in-step w =
+    record {
+      event = λ c. refl;
+      givenIn = λ c i. i;
+      powerUp = meets-first w;
+      answer = λ y s h c i. same-reply h c i;
+      next = λ y s h c i. meets-next h c i;
+      radio = λ y s h. same-held (h .stands .air .radio);
+      waiting = λ y s h. same-waiting y s h;
+    }
+
+module _ (w : Memories) (cs : List Call) (l : Each CallIn cs) where
+  abbrev given : Each (defined sx1262 .GivenIn) (map inputOf cs)
+  given = given-in (in-step w) cs l
+
+  -- the messages that a call writes are those that the definition says
+  pub demand2-wire : (c : Call) → CallIn c → Demand2Wire (coded w) cs c (step sx1262 (history (defined sx1262) (map inputOf cs) .device) (inputOf c) .written)
+  demand2-wire c i = demand2-wire-carried (in-step w) cs l c i (H.demand2-wire sx1262 sx1262-in (map inputOf cs) given (inputOf c) i)
+
+  pub demand3 : Demand3 (coded w) cs
+  demand3 = demand3-carried (in-step w) cs l (H.demand3 sx1262 sx1262-in (map inputOf cs) given)
+
+  pub in-time : InTime (coded w) cs
+  in-time = in-time-carried (in-step w) cs l (H.in-time sx1262 sx1262-in (map inputOf cs) given)
+
+  pub drop-count : DropCount (coded w) cs
+  drop-count = drop-count-carried (in-step w) cs l (H.drop-count sx1262 sx1262-in (map inputOf cs) given)

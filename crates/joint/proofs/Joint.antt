@@ -1,0 +1,245 @@
+-- The device in code goes in step with the device of the definition, from power-up on.
+-- The idea: a state of the code stands for one of the definition (Stands), each event keeps that and is answered alike, and of the states of the definition
+-- that can be reached its own invariants are known (Keeping, Ranges).
+-- Assumes nothing.
+use mathlib.Core.Path.{_≡_, refl, sym, ap, ap₂, subst, _∙_}
+use mathlib.Core.Bool.{Bool, true, false, cond, not, _&&_}
+use mathlib.Core.List.{List, [], _∷_, _++_, map}
+use mathlib.Core.Option.{Option}
+use Prim.Native.Nat.{ℕ, _+_}
+use native.Mathlib.Omega.{arith}
+use lib.Dec.{leb, ltb}
+use lib.ListN.{length, take}
+use Rattle.numbers.specs.Numbers.{ROOM, STALL}
+use Rattle.buffer.specs.Lay.{lay}
+use Rattle.scalar.specs.Bytes.{Each}
+use Rattle.frame.proofs.Laws.{take-laid}
+use Rattle.board.specs.Board.{sx1262}
+use Rattle.device.specs.State.{Config, Setting, Tx, State, Packet, Event, byte, tick, clear, busy, sent, configured, fault, packet, request, disconnect}
+use Rattle.device.specs.State as S
+use Rattle.device.specs.Messages.{Message, seen, wire, wires}
+use Rattle.device.specs.Events.{Out, Reply, reply, step, onEvent, unlessRoom}
+use Rattle.device.specs.Events as E
+use Rattle.device.proofs.Keeping.{Shape, is-free, is-listening, is-onAir, is-orphan, is-alone, is-configuring, Shaped}
+use Rattle.device.proofs.Keeping as K
+use Rattle.device.proofs.Ranges.{StateIn, at-power-up, sx1262-in}
+use Rattle.device.proofs.Ranges as R
+use Rattle.wire.specs.Wire.{bytesOf, sends}
+use Rattle.control.specs.declared.Radio.{Radio}
+use Rattle.control.specs.declared.Radio.the-variants.{Free, Listening, OnAir, Orphan, Configuring}
+use Rattle.control.specs.declared.Device.{Device}
+use Rattle.control.specs.declared.Order.the-variants.{Nothing}
+use Rattle.control.specs.Control.{link, withLink, free?, stalled, Done, refused, taken, within, endSession}
+use Rattle.outcome.specs.Outcomes.{onClear, onBusy, onSent, onConfigured, onFault, clearDone, busyDone, sentDone, configuredDone, faultDone}
+use Rattle.inbox.specs.Packets.{onPacket, onRequest, packetDone, requestDone}
+use Rattle.link.specs.Link.{onTick, onDisconnect, tickDone, disconnectDone, Fed, fed, onByte, byteDone}
+use Rattle.joint.specs.Machine.{Machine, Call, Ran, speaks, keepsStill, runsOn, runs, replyOf}
+use Rattle.joint.specs.Joined.{Memories, started, inputOf, CallIn, answers, replies, Joined}
+use Rattle.joint.proofs.Stands.{as-free, Stands, Agrees, refuses, empty-link, empty-air, empty-inbox}
+use Rattle.joint.proofs.Outcomes.{on-clear, on-busy, on-sent, on-configured, on-fault}
+use Rattle.joint.proofs.Inbox.{same-free, on-packet, on-request}
+use Rattle.joint.proofs.Link.{same-stalled, on-tick, on-disconnect}
+use Rattle.joint.proofs.Byte.{on-byte}
+
+-- ---- what is written
+
+sends-wires : (ms : List Message) → sends (map seen ms) ≡ wires ms
+unfolding sends bytesOf wires wire
+sends-wires [] = refl
+sends-wires (m ∷ ms) = ap (λ (bs : List ℕ). wire m ++ bs) (sends-wires ms)
+
+-- ---- one call
+
+-- a machine stands for a state
+abbrev pub Stood : Machine → State → Type 0
+Stood y s = Stands (y .device) (y .run) (y .commands) (y .packets) s
+
+-- it is answered alike, and stands for the next state
+pub record Alike (x : Ran) (o : Out) : Type 0 where
+  pub reply : replyOf x ≡ reply o
+  pub next : Stood (x .next) (o .next)
+
+module _ {x : Done} {run m p : List ℕ} {o : Out} (a : Agrees x run m p o) (out : List ℕ) where
+  same-bytes : sends (x .said) ≡ wires (o .written)
+  same-bytes = ap sends (a .said) ∙ sends-wires (o .written)
+
+  speaking : Alike (speaks x out run m p) o
+  unfolding replyOf
+  speaking =
+      record {
+        reply =
+            let e : 0 + length (sends (x .said)) ≡ length (sends (x .said)) = omega arith in
+            let b : take (0 + length (sends (x .said))) (lay 0 (sends (x .said)) out) ≡ wires (o .written) = rw e (take-laid (sends (x .said)) out) ∙ same-bytes in
+            λ j. record { number = a .number j; bytes = b j; order = a .order j };
+        next = a .next;
+      }
+
+  still : x .said ≡ [] → Alike (keepsStill x out run m p) o
+  unfolding replyOf sends
+  still q =
+      record {
+        reply =
+            let b : take (0 + length (sends (x .said))) out ≡ wires (o .written) = rw q (sym (ap sends q) ∙ same-bytes) in
+            λ j. record { number = a .number j; bytes = b j; order = a .order j };
+        next = a .next;
+      }
+
+-- events that write nothing
+quiet-clear : (r : Radio) (d : Device) → onClear r d .said ≡ []
+quiet-clear Free d = refl
+quiet-clear (Listening t) d = refl
+quiet-clear (OnAir t) d = refl
+quiet-clear Orphan d = refl
+quiet-clear Configuring d = refl
+
+quiet-tick : (d : Device) → onTick d .said ≡ []
+unfolding endSession
+quiet-tick d = go (d .link .session && not (stalled (d .air))) (leb 999 (d .link .ticks))
+  where
+    go : (v a : Bool) → cond v (cond a (endSession d) (taken (withLink d (link true (d .link .ticks + 1) (d .link .run))) [] Nothing)) (taken d [] Nothing) .said ≡ []
+    go true true = refl
+    go true false = refl
+    go false a = refl
+
+quiet-disconnect : (v : Bool) (d : Device) → onDisconnect v d .said ≡ []
+unfolding endSession
+quiet-disconnect true d = refl
+quiet-disconnect false d = refl
+
+quiet-packet : (v : Bool) (p : Packet) (ps : List ℕ) (d : Device) → onPacket v p ps d .done .said ≡ []
+quiet-packet true p ps d = refl
+quiet-packet false p ps d = refl
+
+-- with a free radio none waits
+none-waits : {r : S.Radio} {ws : List Tx} {o : Option Setting} {v : Bool} {k : Option Config} → Shape r ws o v k → r ≡ S.free → ws ≡ []
+none-waits is-free e = refl
+none-waits is-listening e = cc
+none-waits is-onAir e = cc
+none-waits is-orphan e = refl
+none-waits is-alone e = refl
+none-waits is-configuring e = refl
+
+module _ (y : Machine) (s : State) (h : Stood y s) (q : Shaped s) (g : StateIn s) (o : List ℕ) where
+  abbrev d : Device
+  d = y .device
+
+  -- ROOM comes first
+  abbrev short : Bool
+  short = ltb (length o) 283
+
+  by-room : (v : Bool) (e : Event) (x : Done) (ps : List ℕ) → Agrees x (y .run) (y .commands) ps (onEvent sx1262 e s)
+      → Agrees (cond v (refused ROOM d) x) (y .run) (y .commands) (cond v (y .packets) ps) (unlessRoom v sx1262 e s)
+  by-room true e x ps a = refuses h 1
+  by-room false e x ps a = a
+
+  quiet-room : (v : Bool) (x : Done) → x .said ≡ [] → cond v (refused ROOM d) x .said ≡ []
+  quiet-room true x e = refl
+  quiet-room false x e = e
+
+  same-packets : (v : Bool) → cond v (y .packets) (y .packets) ≡ y .packets
+  same-packets true = refl
+  same-packets false = refl
+
+  -- an event that leaves the memories
+  leaves : (e : Event) (x : Done) → Agrees x (y .run) (y .commands) (y .packets) (onEvent sx1262 e s)
+      → Agrees (cond short (refused ROOM d) x) (y .run) (y .commands) (y .packets) (unlessRoom short sx1262 e s)
+  leaves e x a =
+      subst (λ (ps : List ℕ). Agrees (cond short (refused ROOM d) x) (y .run) (y .commands) ps (unlessRoom short sx1262 e s)) (same-packets short)
+      (by-room short e x (y .packets) a)
+
+  -- a byte: ROOM, then STALL
+  abbrev Feeding : Fed → Out → Type 0
+  Feeding x u = Agrees (x .done) (x .run) (x .commands) (y .packets) u
+
+  feeds : (b : ℕ) (v w : Bool) → stalled (d .air) ≡ w
+      → Feeding (cond v (fed (refused ROOM d) (y .run) (y .commands)) (cond w (fed (refused STALL d) (y .run) (y .commands)) (onByte b (y .run) (y .commands) d)))
+      (cond v (E.refused ROOM s) (E.unlessStalled w sx1262 b s))
+  feeds b true w e = refuses h 1
+  feeds b false true e = refuses h 2
+  feeds b false false e = on-byte h e (g .air) (none-waits q) (g .run) b
+
+  fed-room : (b : ℕ) (v : Bool) → cond v (E.refused ROOM s) (E.unlessStalled (stalled (d .air)) sx1262 b s) ≡ unlessRoom v sx1262 (byte b) s
+  fed-room b true = refl
+  fed-room b false = ap (λ (w : Bool). E.unlessStalled w sx1262 b s) (same-stalled (h .air))
+
+  on-fits : (p : Packet)
+      → let x = onPacket (d .inbox .receiving && free? (d .air .radio)) p (y .packets) d in
+      Agrees (x .done) (y .run) (y .commands) (x .packets) (onEvent sx1262 (packet p) s)
+  on-fits p =
+      subst (λ (v : Bool). Agrees (onPacket (d .inbox .receiving && free? (d .air .radio)) p (y .packets) d .done) (y .run) (y .commands)
+      (onPacket (d .inbox .receiving && free? (d .air .radio)) p (y .packets) d .packets) (E.onPacket v p s))
+      (ap₂ _&&_ (h .inbox .receiving) (same-free (h .air .radio)))
+      (on-packet h p (d .inbox .receiving && free? (d .air .radio)))
+
+  steps : (e : Event) → Alike (runsOn e o y) (unlessRoom short sx1262 e s)
+  unfolding within byteDone tickDone clearDone busyDone sentDone configuredDone faultDone packetDone requestDone disconnectDone
+  steps (byte b) =
+      speaking (subst (λ (u : Out). Feeding (byteDone (length o) b (y .run) (y .commands) d) u) (fed-room b short) (feeds b short (stalled (d .air)) refl)) o
+  steps tick = still (leaves tick (onTick d) (on-tick h)) o (quiet-room short (onTick d) (quiet-tick d))
+  steps clear =
+      still (leaves clear (onClear (d .air .radio) d) (on-clear h (h .air .radio))) o
+      (quiet-room short (onClear (d .air .radio) d) (quiet-clear (d .air .radio) d))
+  steps busy = speaking (leaves busy (onBusy (d .air .radio) (y .commands) d) (on-busy h (g .air) (h .air .radio))) o
+  steps (sent airtime) =
+      speaking (leaves (sent airtime) (onSent airtime (d .air .radio) (y .commands) d) (on-sent h (g .air) airtime (h .air .radio))) o
+  steps configured = speaking (leaves configured (onConfigured (d .air .radio) (y .commands) d) (on-configured h (h .air .radio))) o
+  steps fault = speaking (leaves fault (onFault (d .air .radio) (y .commands) d) (on-fault h (g .air) (h .air .radio))) o
+  steps (packet p) =
+      let x = onPacket (d .inbox .receiving && free? (d .air .radio)) p (y .packets) d in
+      still (by-room short (packet p) (x .done) (x .packets) (on-fits p)) o
+      (quiet-room short (x .done) (quiet-packet (d .inbox .receiving && free? (d .air .radio)) p (y .packets) d))
+  steps request =
+      let x = onRequest (d .inbox .held) (y .packets) d in
+      speaking (by-room short request (x .done) (x .packets) (on-request h)) o
+  steps disconnect =
+      still (leaves disconnect (onDisconnect (d .link .session) d) (on-disconnect h)) o
+      (quiet-room short (onDisconnect (d .link .session) d) (quiet-disconnect (d .link .session) d))
+
+-- ---- every list of calls
+
+-- what joins a machine to a state that can be reached
+pub record Meets (y : Machine) (s : State) : Type 0 where
+  pub stands : Stood y s
+  pub shaped : Shaped s
+  pub ranges : StateIn s
+
+module _ {y : Machine} {s : State} (h : Meets y s) (c : Call) (i : CallIn c) where
+  alike : Alike (runs y c) (step sx1262 s (inputOf c))
+  unfolding runs step
+  alike = steps y s (h .stands) (h .shaped) (h .ranges) (c .out) (c .event)
+
+  pub same-reply : replyOf (runs y c) ≡ reply (step sx1262 s (inputOf c))
+  same-reply = alike .reply
+
+  pub meets-next : Meets (runs y c .next) (step sx1262 s (inputOf c) .next)
+  meets-next =
+      record {
+        stands = alike .next;
+        shaped = K.keeps sx1262 [] s (inputOf c) (h .shaped) .shape;
+        ranges = R.keeps sx1262 sx1262-in s (h .ranges) (inputOf c) i .next;
+      }
+
+-- any three memories stand for the state at power-up
+pub meets-first : (w : Memories) → Meets (started w) S.powerUp
+meets-first w =
+    record {
+      stands =
+          record {
+            link = empty-link false 0 (omega arith) (w .run-size);
+            mode = refl;
+            air = empty-air 0 as-free (omega arith) (w .commands-size);
+            inbox = empty-inbox 0 (omega arith) (w .packets-size);
+          };
+      shaped = is-free;
+      ranges = at-power-up;
+    }
+
+all-alike : (y : Machine) (s : State) → Meets y s → (cs : List Call) → Each CallIn cs → answers y cs ≡ replies s (map inputOf cs)
+unfolding answers replies
+all-alike y s h [] l = refl
+all-alike y s h (c ∷ cs) l =
+    ap₂ (λ (r : Reply) (rs : List Reply). r ∷ rs) (same-reply h c (l .0))
+    (all-alike (runs y c .next) (step sx1262 s (inputOf c) .next) (meets-next h c (l .0)) cs (l .1))
+
+pub joined : (w : Memories) (cs : List Call) → Joined w cs
+joined w cs l = all-alike (started w) S.powerUp (meets-first w) cs l

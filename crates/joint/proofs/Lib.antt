@@ -1,0 +1,10 @@
+pub mod Slots
+pub mod Stands
+pub mod Outcomes
+pub mod Inbox
+pub mod Link
+pub mod Commands
+pub mod Byte
+pub mod Joint
+pub mod Demands
+pub mod Refusals

@@ -1,0 +1,1 @@
+// The device in code is the device of the definition: theorems.

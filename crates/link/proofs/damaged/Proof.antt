@@ -1,0 +1,23 @@
+-- One frame is said, and that is all.
+-- Assumes nothing.
+use Rattle.wire.proofs.Laws.{sent-one}
+use Rattle.control.proofs.Laws.{spoken}
+use borrow.Author.Needs.{needs}
+use Rattle.link.proofs.damaged.Statement.{statement}
+use Rattle.link.proofs.damaged.Tie as tie
+
+say-err-requires : tie.Need-say-err-requires
+say-err-requires c κs = search needs
+
+accept-requires : tie.Need-accept-requires
+accept-requires c κs = search needs
+
+same-length : tie.Need-same-length
+same-length c = search needs
+
+returns : tie.Need-returns
+returns c =
+    spoken _ _ _ (sent-one (c .before .before .before .say-err .ensures)) (c .accept .ensures)
+
+pub damaged-spec : {M : Type 1} → statement M
+damaged-spec = tie.close (tie.spec say-err-requires accept-requires same-length returns)

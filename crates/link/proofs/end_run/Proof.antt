@@ -1,0 +1,56 @@
+-- The run is judged by its length (Laws), and what follows is the callee's.
+-- Assumes nothing.
+use mathlib.Core.Path.{refl}
+use Rattle.control.proofs.Laws.{quiet}
+use Rattle.link.proofs.Laws.{no-run, long-run, short-run}
+use borrow.Author.Needs.{needs}
+use Rattle.link.proofs.end_run.Statement.{statement}
+use Rattle.link.proofs.end_run.Tie as tie
+
+cast-n : tie.Need-cast-n
+cast-n c = search needs
+
+accept-requires : tie.Need-accept-requires
+accept-requires c κs = search needs
+
+returns : tie.Need-returns
+returns c =
+    rw (no-run (c .before .before .before .before .before .args .run .now) (c .before .before .before .before .before .args .commands .now) (c .before .before .before .before .before .args .d) (c .before .if1 .taken)) (record { gives = quiet _ _ _ _ 0 (c .accept .ensures); commands = refl })
+
+with-link-requires : tie.Need-with-link-requires
+with-link-requires c κs = search needs
+
+damaged-requires : tie.Need-damaged-requires
+damaged-requires c κs = search needs
+
+same-length : tie.Need-same-length
+same-length c = search needs
+
+returns-2 : tie.Need-returns-2
+returns-2 c =
+    rw (long-run (c .before .before .before .before .before .before .before .before .before .before .args .run .now) (c .before .before .before .before .before .before .before .before .before .before .args .commands .now) (c .before .before .before .before .before .before .before .before .before .before .args .d) (c .before .before .before .before .if2 .taken)) (record { gives = rw (c .before .before .before .before .before .with-link .ensures) at (c .before .before .damaged .ensures); commands = refl })
+
+receive-requires : tie.Need-receive-requires
+receive-requires c κs = search needs
+
+same-length-2 : tie.Need-same-length-2
+same-length-2 c = search needs
+
+returns-3 : tie.Need-returns-3
+returns-3 c =
+    rw (short-run (c .before .before .before .before .before .before .before .before .before .before .before .before .args .run .now) (c .before .before .before .before .before .before .before .before .before .before .before .before .args .commands .now) (c .before .before .before .before .before .before .before .before .before .before .before .before .args .d) (c .before .before .before .before .before .before .before .before .if1 .left) (c .before .before .before .before .before .before .if2 .left)) (rw (c .before .before .before .before .before .before .before .with-link .ensures) at (c .before .before .receive .ensures))
+
+pub end-run-spec : {M : Type 1} → statement M
+end-run-spec =
+    tie.close
+    (tie.spec
+    cast-n
+    accept-requires
+    returns
+    with-link-requires
+    damaged-requires
+    same-length
+    returns-2
+    receive-requires
+    same-length-2
+    returns-3)

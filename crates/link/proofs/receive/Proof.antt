@@ -1,0 +1,105 @@
+-- The run is opened in working memory; what is found there is what the definition receives (Laws).
+-- Assumes nothing.
+use mathlib.Core.Path.{refl, sym, _∙_}
+use native.Mathlib.Omega.{arith}
+use lib.ListN.{take}
+use lib.Seq.{length-take-le}
+use Rattle.cobs.specs.Answers.{encodedMax}
+use Rattle.frame.proofs.Laws.{opens-facts}
+use Rattle.message.proofs.Steps.{payload-seen}
+use Rattle.link.proofs.Laws.{refused-run, untagged-run, tagged-run}
+use borrow.Author.Needs.{needs}
+use Rattle.link.proofs.receive.Statement.{statement}
+use Rattle.link.proofs.receive.Tie as tie
+
+slice-aggregate-unpack : tie.Need-slice-aggregate-unpack
+slice-aggregate-unpack c =
+    sym (length-take-le _ (c .before .before .before .args .run .now) (c .before .before .before .pre .0))
+
+slice-aggregate-unpack-2 : tie.Need-slice-aggregate-unpack-2
+slice-aggregate-unpack-2 c = search needs
+
+unpack-requires : tie.Need-unpack-requires
+unpack-requires c κs = search needs
+
+enum-known-opened : tie.Need-enum-known-opened
+enum-known-opened c = search needs
+
+enum-told : tie.Need-enum-told
+enum-told c = search needs
+
+damaged-requires : tie.Need-damaged-requires
+damaged-requires c κs = search needs
+
+same-length : tie.Need-same-length
+same-length c = search needs
+
+returns : tie.Need-returns
+returns c =
+    let e = sym (c .before .before .before .before .before .before .before .unpack .ensures .0) ∙ c .before .before .before .before .enum-told .given .1 in
+    rw (refused-run (take (c .before .before .before .before .before .before .before .before .before .before .before .before .args .n) (c .before .before .before .before .before .before .before .before .before .before .before .before .args .run .now)) e) (record { gives = c .before .before .damaged .ensures; commands = refl })
+
+damaged-requires-2 : tie.Need-damaged-requires-2
+damaged-requires-2 c κs = search needs
+
+same-length-2 : tie.Need-same-length-2
+same-length-2 c = search needs
+
+returns-2 : tie.Need-returns-2
+returns-2 c =
+    let e = sym (c .before .before .before .before .before .before .before .before .before .unpack .ensures .0) ∙ c .before .before .before .before .before .before .opened .given .1 in
+    rw (untagged-run (take (c .before .before .before .before .before .before .before .before .before .before .before .before .before .before .args .n) (c .before .before .before .before .before .before .before .before .before .before .before .before .before .before .args .run .now)) e (c .before .before .before .before .if1 .taken)) (record { gives = c .before .before .damaged2 .ensures; commands = refl })
+
+add-dispatch : tie.Need-add-dispatch
+add-dispatch c =
+    let e = sym (c .before .before .before .before .before .unpack .ensures .0) ∙ c .before .before .opened .given .1 in
+    let o = opens-facts (take (c .before .before .before .before .before .before .before .before .before .before .args .n) (c .before .before .before .before .before .before .before .before .before .before .args .run .now)) encodedMax e in
+    omega (arith, o .most)
+
+sub-dispatch : tie.Need-sub-dispatch
+sub-dispatch c = search needs
+
+part-dispatch-start : tie.Need-part-dispatch-start
+part-dispatch-start c = search needs
+
+part-dispatch-end : tie.Need-part-dispatch-end
+part-dispatch-end c =
+    let e = sym (c .before .before .before .before .before .before .unpack .ensures .0) ∙ c .before .before .before .opened .given .1 in
+    let o = opens-facts (take (c .before .before .before .before .before .before .before .before .before .before .before .args .n) (c .before .before .before .before .before .before .before .before .before .before .before .args .run .now)) encodedMax e in
+    omega (arith, o .most, c .before .before .before .before .before .before .unpack .kept .1 .1 .0)
+
+dispatch-requires : tie.Need-dispatch-requires
+dispatch-requires c κs = search needs
+
+same-length-3 : tie.Need-same-length-3
+same-length-3 c = search needs
+
+returns-3 : tie.Need-returns-3
+returns-3 c =
+    let run = take (c .before .before .before .before .before .before .before .before .before .before .before .before .before .before .before .before .before .args .n) (c .before .before .before .before .before .before .before .before .before .before .before .before .before .before .before .before .before .args .run .now) in
+    let e = sym (c .before .before .before .before .before .before .before .before .before .before .before .before .unpack .ensures .0) ∙ c .before .before .before .before .before .before .before .before .before .opened .given .1 in
+    let p = payload-seen run encodedMax (c .before .before .before .before .before .before .before .before .before .before .before .before .unpack .last .1 .1 .0) e (c .before .before .before .before .before .before .before .before .before .before .before .before .unpack .ensures .1) in
+    rw (tagged-run run e (c .before .before .before .before .before .before .before .if1 .left)) (rw p at (c .before .before .dispatch .ensures))
+
+pub receive-spec : {M : Type 1} → statement M
+receive-spec =
+    tie.close
+    (tie.spec
+    slice-aggregate-unpack
+    slice-aggregate-unpack-2
+    unpack-requires
+    enum-known-opened
+    enum-told
+    damaged-requires
+    same-length
+    returns
+    damaged-requires-2
+    same-length-2
+    returns-2
+    add-dispatch
+    sub-dispatch
+    part-dispatch-start
+    part-dispatch-end
+    dispatch-requires
+    same-length-3
+    returns-3)

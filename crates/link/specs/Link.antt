@@ -1,0 +1,85 @@
+-- The host's side: byte, tick and disconnect. 01 "A run of bytes becomes a frame" and "What each event does".
+-- Assumes nothing.
+use Prim.Native.Nat.{ℕ, zero, suc, _+_}
+use mathlib.Core.Path.{_≡_}
+use mathlib.Core.Bool.{Bool, true, false, cond, not, _&&_}
+use mathlib.Core.List.{List, []}
+use lib.Dec.{leb, ltb}
+use lib.ListN.{length, take, set}
+use Rattle.numbers.specs.Numbers.{ROOM, STALL}
+use Rattle.cobs.specs.Answers.{encodedMax}
+use Rattle.device.specs.Frames.{damaged, received}
+use Rattle.device.specs.Events.{roomMin}
+use Rattle.control.specs.declared.Device.{Device}
+use Rattle.control.specs.declared.Order.the-variants.{Nothing}
+use Rattle.control.specs.declared.Answer.{Answer}
+use Rattle.control.specs.Control.{link, withLink, stalled, Done, taken, refused, within, endSession, Gives}
+use Rattle.dispatch.specs.Commands.{Ruled, ruled, onReceived}
+
+-- ---- tick, disconnect
+
+-- the thousandth counted tick ends the session
+abbrev pub onTick : Device → Done
+onTick d =
+    cond (d .link .session && not (stalled (d .air)))
+    (cond (leb 999 (d .link .ticks)) (endSession d)
+    (taken (withLink d (link true (d .link .ticks + 1) (d .link .run))) [] Nothing))
+    (taken d [] Nothing)
+
+abbrev pub onDisconnect : Bool → Device → Done
+onDisconnect true d = endSession d
+onDisconnect false d = taken (withLink d (link false (d .link .ticks) 0)) [] Nothing
+
+unfoldable pub tickDone : ℕ → Device → Done
+tickDone room d = within room d (onTick d)
+
+unfoldable pub disconnectDone : ℕ → Device → Done
+disconnectDone room d = within room d (onDisconnect (d .link .session) d)
+
+-- ---- byte
+
+-- what a byte gives, and the memories of the run and of commands that it leaves
+pub record Fed : Type 0 where
+  pub done : Done
+  pub run : List ℕ
+  pub commands : List ℕ
+
+abbrev pub fed : Done → List ℕ → List ℕ → Fed
+fed x run m = record { done = x; run = run; commands = m }
+
+-- a byte that isn't zero joins the run; from 283 bytes on only that it is too long is kept
+abbrev pub joined : Device → ℕ → Done
+joined d n = taken (withLink d (link (d .link .session) (d .link .ticks) n)) [] Nothing
+
+unfoldable pub onJoin : ℕ → List ℕ → List ℕ → Device → Fed
+onJoin b run m d =
+    cond (ltb (d .link .run) encodedMax) (fed (joined d (d .link .run + 1)) (set run (d .link .run) b) m)
+    (fed (joined d 283) run m)
+
+-- a zero ends the run: an empty one is nothing, and any other opens a session, sets the liveness count to 0, and is judged
+abbrev pub judges : ℕ → List ℕ → List ℕ → Device → Ruled
+judges n run m d = cond (ltb encodedMax n) (onReceived damaged m d) (onReceived (received (take n run)) m d)
+
+abbrev pub onRun : ℕ → List ℕ → List ℕ → Device → Ruled
+onRun zero run m d = ruled (taken d [] Nothing) m
+onRun (suc n) run m d = judges (suc n) run m (withLink d (link true 0 0))
+
+unfoldable pub onZero : List ℕ → List ℕ → Device → Ruled
+onZero run m d = onRun (d .link .run) run m d
+
+abbrev pub onByte : ℕ → List ℕ → List ℕ → Device → Fed
+onByte zero run m d = fed (onZero run m d .done) run (onZero run m d .commands)
+onByte (suc n) run m d = onJoin (suc n) run m d
+
+-- ROOM, then STALL
+unfoldable pub byteDone : ℕ → ℕ → List ℕ → List ℕ → Device → Fed
+byteDone room b run m d =
+    cond (ltb room roomMin) (fed (refused ROOM d) run m)
+    (cond (stalled (d .air)) (fed (refused STALL d) run m)
+    (onByte b run m d))
+
+-- the contract of a byte
+pub record Feeds (x : Fed) (o : List ℕ) (r : Answer) (o' run' m' : List ℕ) : Type 0 where
+  pub gives : Gives (x .done) o 0 r o'
+  pub run : run' ≡ x .run
+  pub commands : m' ≡ x .commands

@@ -1,0 +1,180 @@
+// Three of the ten events, the host's side: byte, tick, disconnect. 01 "A run of bytes becomes a
+// frame" and "What each event does".
+ghost use mathlib.Core.Path.{_≡_};
+ghost use Prim.Native.Nat.{_≤_};
+ghost use mathlib.Core.List.{[]};
+ghost use lib.ListN.{length, take, replicate};
+ghost use Rattle.cobs.specs.Answers.{encodedMax};
+ghost use Rattle.device.specs.Frames as F;
+ghost use Rattle.control.specs.Control.{answerOf, Gives};
+ghost use Rattle.dispatch.specs.Commands.{Rules, onReceived};
+ghost use Rattle.link.specs.Link.{Feeds, tickDone, disconnectDone, byteDone, onJoin, onZero};
+use cobs::ENCODED_MAX;
+use control::Answer;
+use control::Device;
+use control::Link;
+use control::Order;
+use control::ROOM_MIN;
+use frame::Opened;
+use frame::PAYLOAD;
+use numbers::ROOM;
+use numbers::STALL;
+use queue::COMMANDS;
+
+// The longest run that can be a frame.
+pub const RUN_MAX: usize = ENCODED_MAX;
+// The length of a run that is longer.
+const TOO_LONG: u16 = 283;
+// The highest liveness count: one tick more, the thousandth, ends the session.
+const TICKS_MAX: u16 = 999;
+// P 7.
+const EFRAME: u16 = 0x0102;
+
+// The memory of the run at power-up.
+pub fn empty_run() -> [u8; RUN_MAX]
+    ensures { λ r. ⌜ r ≡ replicate encodedMax 0 ⌝ }
+{
+    [0; RUN_MAX]
+}
+
+// A millisecond. It writes nothing, and asks only for the room that an event's output must have.
+pub fn tick(d: Device, room: usize) -> Answer
+    ensures { λ r. ⌜ r ≡ answerOf 0 (tickDone room d) ⌝ }
+{
+    if room < ROOM_MIN {
+        return control::refuse(d, ROOM);
+    }
+    let link = d.link;
+    let air = d.air;
+    if link.session & !control::is_stalled(air) {
+        let ticks = link.ticks;
+        if TICKS_MAX <= ticks {
+            return control::end_session(d);
+        }
+        let next = Link {
+            session: true,
+            ticks: ticks + 1,
+            run: link.run,
+        };
+        let e = control::with_link(d, next);
+        return control::accept(e, 0, Order::Nothing);
+    }
+    control::accept(d, 0, Order::Nothing)
+}
+
+// The host is gone. It writes nothing.
+pub fn disconnect(d: Device, room: usize) -> Answer
+    ensures { λ r. ⌜ r ≡ answerOf 0 (disconnectDone room d) ⌝ }
+{
+    if room < ROOM_MIN {
+        return control::refuse(d, ROOM);
+    }
+    let link = d.link;
+    if link.session {
+        return control::end_session(d);
+    }
+    let next = Link {
+        session: false,
+        ticks: link.ticks,
+        run: 0,
+    };
+    let e = control::with_link(d, next);
+    control::accept(e, 0, Order::Nothing)
+}
+
+// A byte from the host.
+pub fn byte(
+    d: Device,
+    b: u8,
+    run: &mut [u8; RUN_MAX],
+    commands: &mut [u8; COMMANDS],
+    out: &mut [u8],
+) -> Answer
+    ensures { λ r. ⌜ Feeds (byteDone (length (now (out .entry))) b (now (run .entry)) (now (commands .entry)) d) (now (out .entry)) r (now (out .exit)) (now (run .exit)) (now (commands .exit)) ⌝ }
+{
+    if out.len() < ROOM_MIN {
+        return control::refuse(d, ROOM);
+    }
+    let air = d.air;
+    if control::is_stalled(air) {
+        return control::refuse(d, STALL);
+    }
+    if b == 0 {
+        return end_run(d, run, commands, out);
+    }
+    collect(d, b, run)
+}
+
+// A byte that is not zero joins the run.
+fn collect(d: Device, b: u8, run: &mut [u8; RUN_MAX]) -> Answer
+    ensures { λ r. ⌜ r ≡ answerOf 0 (onJoin b (now (run .entry)) [] d .done) ⌝ }
+    ensures { λ r. ⌜ now (run .exit) ≡ onJoin b (now (run .entry)) [] d .run ⌝ }
+{
+    let link = d.link;
+    let at = link.run as usize;
+    if at < RUN_MAX {
+        run[at] = b;
+        let next = Link {
+            session: link.session,
+            ticks: link.ticks,
+            run: link.run + 1,
+        };
+        let e = control::with_link(d, next);
+        return control::accept(e, 0, Order::Nothing);
+    }
+    let next = Link {
+        session: link.session,
+        ticks: link.ticks,
+        run: TOO_LONG,
+    };
+    let e = control::with_link(d, next);
+    control::accept(e, 0, Order::Nothing)
+}
+
+// A zero ends the run.
+fn end_run(d: Device, run: &[u8; RUN_MAX], commands: &mut [u8; COMMANDS], out: &mut [u8]) -> Answer
+    requires { ⌜ 283 ≤ length (now out) ⌝ }
+    ensures { λ r. ⌜ Rules (onZero (now (run .entry)) (now (commands .entry)) d) (now (out .entry)) r (now (out .exit)) (now (commands .exit)) ⌝ }
+{
+    let was = d.link;
+    let n = was.run as usize;
+    if n == 0 {
+        return control::accept(d, 0, Order::Nothing);
+    }
+    let next = Link {
+        session: true,
+        ticks: 0,
+        run: 0,
+    };
+    let e = control::with_link(d, next);
+    if RUN_MAX < n {
+        return damaged(e, out);
+    }
+    receive(e, run, n, commands, out)
+}
+
+// The run is the first n bytes of run.
+fn receive(d: Device, run: &[u8], n: usize, commands: &mut [u8; COMMANDS], out: &mut [u8]) -> Answer
+    requires { ⌜ n ≤ length (now run) ⌝ }
+    requires { ⌜ 283 ≤ length (now out) ⌝ }
+    ensures { λ r. ⌜ Rules (onReceived (F.received (take n (now (run .entry)))) (now (commands .entry)) d) (now (out .entry)) r (now (out .exit)) (now (commands .exit)) ⌝ }
+{
+    let mut memory = [0u8; ENCODED_MAX];
+    let opened = frame::unpack(&run[..n], ENCODED_MAX, &mut memory);
+    let Opened::Body { kind, tag, len } = opened else {
+        return damaged(d, out);
+    };
+    if tag == 0 {
+        return damaged(d, out);
+    }
+    dispatch::dispatch(d, kind, tag, &memory[PAYLOAD..PAYLOAD + len], commands, out)
+}
+
+// A run that is no frame.
+fn damaged(d: Device, out: &mut [u8]) -> Answer
+    requires { ⌜ 283 ≤ length (now out) ⌝ }
+    ensures { λ r. ⌜ Gives (onReceived F.damaged [] d .done) (now (out .entry)) 0 r (now (out .exit)) ⌝ }
+{
+    let w = wire::say_err(EFRAME, 0, out, 0);
+    control::accept(d, w, Order::Nothing)
+}
