@@ -1,0 +1,20 @@
+-- The part is as long as it was asked to be.
+-- Assumes nothing.
+use mathlib.Core.Path.{sym}
+use lib.Seq.{length-take-le}
+use borrow.Author.Needs.{needs}
+use Rattle.replay.proofs.event.lent.Statement.{statement}
+use Rattle.replay.proofs.event.lent.Tie as tie
+
+slice-aggregate-result : tie.Need-slice-aggregate-result
+slice-aggregate-result c =
+    sym (length-take-le _ (c .before .before .args .out .now) (search needs))
+
+returns : tie.Need-returns
+returns c = search needs
+
+returns-2 : tie.Need-returns-2
+returns-2 c = search needs
+
+pub lent-spec : {M : Type 1} → statement M
+lent-spec = tie.close (tie.spec slice-aggregate-result returns returns-2)

@@ -1,0 +1,295 @@
+// Replays a script of device events, from standard input, and writes the trace of the answers.
+ghost use mathlib.Core.Path.{_≡_};
+ghost use lib.ListN.{length};
+
+mod event;
+mod print;
+
+use crate::event::ROOM_MAX;
+use crate::event::Replay;
+use inbox::PACKETS;
+use libc::STDERR_FILENO;
+use libc::STDIN_FILENO;
+use link::RUN_MAX;
+use queue::COMMANDS;
+use script::Item;
+
+// The longest line that is kept, where blanks after a blank and a comment's text do not count. A
+// longer one is a bad line.
+const LINE: usize = 600000;
+// How many bytes such a line may have: two digits and a blank each.
+const BYTES: usize = 200000;
+// So many pieces are read at most. No script has as many: a proved loop has to end.
+const PIECES: u64 = 1 << 62;
+
+// Where the reading of a script stands.
+struct Reading {
+    replay: Replay,
+    // How many bytes of the line are kept, and whether it is too long.
+    len: usize,
+    long: bool,
+    // How many lines have ended.
+    lines: u64,
+    // A bad line has ended the run.
+    ended: bool,
+}
+
+// What one turn of the loop comes to.
+enum Next {
+    // There may be more to read.
+    More(Reading),
+    // The script has ended.
+    Done(Reading),
+}
+
+// A reading at its start.
+fn start() -> Reading {
+    let replay = event::start();
+    Reading {
+        replay,
+        len: 0,
+        long: false,
+        lines: 0,
+        ended: false,
+    }
+}
+
+// The memory of lines.
+fn empty_line() -> [u8; LINE]
+    ensures { λ r. ⌜ 600000 ≡ length r ⌝ }
+{
+    [0; LINE]
+}
+
+// The memory of a line's bytes.
+fn empty_bytes() -> [u8; BYTES]
+    ensures { λ r. ⌜ 200000 ≡ length r ⌝ }
+{
+    [0; BYTES]
+}
+
+// Whether a byte is a blank.
+fn is_blank(b: u8) -> bool {
+    (b == b' ') | (b == b'\t')
+}
+
+// A line with so many bytes kept.
+fn with_len(s: Reading, len: usize, long: bool) -> Reading {
+    let replay = s.replay;
+    Reading {
+        replay,
+        len,
+        long,
+        lines: s.lines,
+        ended: s.ended,
+    }
+}
+
+// A byte of a line is kept, unless it is part of a comment or a blank after a blank.
+fn keep(s: Reading, b: u8, line: &mut [u8]) -> Reading {
+    let len = s.len;
+    if line.len() <= len {
+        return with_len(s, len, true);
+    }
+    if 0 < len {
+        if line[0] == b'#' {
+            return s;
+        }
+        if is_blank(b) & is_blank(line[len - 1]) {
+            return s;
+        }
+    }
+    line[len] = b;
+    with_len(s, len + 1, s.long)
+}
+
+// The item that a line is.
+fn item_of(s: Reading, line: &[u8], bytes: &mut [u8]) -> Item {
+    if s.long {
+        return Item::Bad;
+    }
+    script::read(buffer::part(line, 0, s.len), bytes)
+}
+
+// A line has ended: its events are run, or it is bad and ends the run.
+fn end_line(
+    s: Reading,
+    line: &[u8],
+    bytes: &mut [u8],
+    run: &mut [u8; RUN_MAX],
+    commands: &mut [u8; COMMANDS],
+    packets: &mut [u8; PACKETS],
+    out: &mut [u8],
+) -> Reading {
+    let was = s.replay;
+    let lines = event::more(s.lines);
+    let item = item_of(s, line, bytes);
+    if let Item::Bad = item {
+        print::bad_line(lines);
+        return Reading {
+            replay: was,
+            len: 0,
+            long: false,
+            lines,
+            ended: true,
+        };
+    }
+    let replay = event::run(was, item, bytes, run, commands, packets, out);
+    Reading {
+        replay,
+        len: 0,
+        long: false,
+        lines,
+        ended: false,
+    }
+}
+
+// A byte of the script.
+fn byte(
+    s: Reading,
+    b: u8,
+    line: &mut [u8],
+    bytes: &mut [u8],
+    run: &mut [u8; RUN_MAX],
+    commands: &mut [u8; COMMANDS],
+    packets: &mut [u8; PACKETS],
+    out: &mut [u8],
+) -> Reading {
+    if s.ended {
+        return s;
+    }
+    if b == b'\n' {
+        return end_line(s, line, bytes, run, commands, packets, out);
+    }
+    keep(s, b, line)
+}
+
+// A piece of the script.
+fn feed(
+    s: Reading,
+    piece: &[u8],
+    line: &mut [u8],
+    bytes: &mut [u8],
+    run: &mut [u8; RUN_MAX],
+    commands: &mut [u8; COMMANDS],
+    packets: &mut [u8; PACKETS],
+    out: &mut [u8],
+) -> Reading {
+    let mut t = s;
+    let mut i = 0;
+    while i < piece.len() {
+        let b = piece[i];
+        i += 1;
+        t = byte(t, b, line, bytes, run, commands, packets, out);
+    }
+    t
+}
+
+// The next piece: how many bytes of it there are, and 0 at the end.
+fn read(piece: &mut [u8]) -> usize {
+    let got = libc::read(STDIN_FILENO, piece);
+    if got < 0 {
+        io::write_all(STDERR_FILENO, b"replay: read failed\n");
+    }
+    io::count(got, piece)
+}
+
+// A piece was read, or the script has ended.
+fn turn(
+    s: Reading,
+    line: &mut [u8],
+    bytes: &mut [u8],
+    run: &mut [u8; RUN_MAX],
+    commands: &mut [u8; COMMANDS],
+    packets: &mut [u8; PACKETS],
+    out: &mut [u8],
+    piece: &mut [u8],
+) -> Next {
+    let n = read(piece);
+    if n == 0 {
+        return Next::Done(s);
+    }
+    let t = feed(
+        s,
+        buffer::part(piece, 0, n),
+        line,
+        bytes,
+        run,
+        commands,
+        packets,
+        out,
+    );
+    Next::More(t)
+}
+
+// The whole script.
+fn replay(
+    line: &mut [u8],
+    bytes: &mut [u8],
+    run: &mut [u8; RUN_MAX],
+    commands: &mut [u8; COMMANDS],
+    packets: &mut [u8; PACKETS],
+    out: &mut [u8],
+    piece: &mut [u8],
+) -> Reading {
+    let mut s = start();
+    let mut i: u64 = 0;
+    while i < PIECES {
+        i += 1;
+        match turn(s, line, bytes, run, commands, packets, out, piece) {
+            Next::More(t) => {
+                s = t;
+            }
+            Next::Done(t) => {
+                return t;
+            }
+        }
+    }
+    s
+}
+
+// The last line, if no line end has ended it.
+fn end(
+    s: Reading,
+    line: &[u8],
+    bytes: &mut [u8],
+    run: &mut [u8; RUN_MAX],
+    commands: &mut [u8; COMMANDS],
+    packets: &mut [u8; PACKETS],
+    out: &mut [u8],
+) -> Reading {
+    if s.ended | (s.len == 0) {
+        return s;
+    }
+    end_line(s, line, bytes, run, commands, packets, out)
+}
+
+fn main() {
+    let mut line = empty_line();
+    let mut bytes = empty_bytes();
+    let mut run = link::empty_run();
+    let mut commands = queue::empty_commands();
+    let mut packets = inbox::empty_packets();
+    let mut out = io::buffer();
+    let mut piece = io::large_buffer();
+    let s = replay(
+        &mut line,
+        &mut bytes,
+        &mut run,
+        &mut commands,
+        &mut packets,
+        &mut out,
+        &mut piece,
+    );
+    let t = end(
+        s,
+        &line,
+        &mut bytes,
+        &mut run,
+        &mut commands,
+        &mut packets,
+        &mut out,
+    );
+    let replay = t.replay;
+    print::events(replay.events);
+}

@@ -1,0 +1,45 @@
+// The trace, line by line. What a line has is the crate trace's.
+use control::Answer;
+use libc::STDERR_FILENO;
+use libc::STDOUT_FILENO;
+use queue::COMMANDS;
+
+// So much output is shown at most: no event writes as much.
+pub const OUT: usize = 4096;
+// The longest line: two numbers, an order with all of the memory of commands in hexadecimal, so much
+// output, and what stands between them.
+const LINE: usize = 17700;
+// The longest of the last lines.
+const LAST: usize = 32;
+
+// Writes the first n bytes of text.
+fn flush(text: &[u8], n: usize) {
+    if io::write_all(STDOUT_FILENO, buffer::part(text, 0, n)) {
+        return;
+    }
+    io::write_all(STDERR_FILENO, b"replay: write failed\n");
+}
+
+// Writes the line of an event, unless its answer is plain.
+pub fn note(index: u64, a: Answer, commands: &[u8; COMMANDS], out: &[u8]) {
+    if trace::is_plain(a) {
+        return;
+    }
+    let mut text = [0u8; LINE];
+    let n = trace::event(index, a, commands, buffer::part(out, 0, OUT), &mut text, 0);
+    flush(&text, n);
+}
+
+// Writes that a line of the script is bad.
+pub fn bad_line(n: u64) {
+    let mut text = [0u8; LAST];
+    let k = trace::bad_line(n, &mut text, 0);
+    flush(&text, k);
+}
+
+// Writes how many events there were.
+pub fn events(n: u64) {
+    let mut text = [0u8; LAST];
+    let k = trace::events(n, &mut text, 0);
+    flush(&text, k);
+}

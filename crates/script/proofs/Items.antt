@@ -1,0 +1,120 @@
+-- Lines of a script: what they ask of their words.
+-- Assumes nothing.
+use mathlib.Core.Path.{_≡_, refl, ap, _∙_}
+use mathlib.Core.Bool.{Bool, true, false, cond}
+use mathlib.Core.List.{List, [], _∷_}
+use Prim.Native.Nat.{ℕ, zero, suc, _≤_}
+use Prim.Native.Char.{code}
+use native.Mathlib.Omega.{arith}
+use borrow.Author.Tests.{eq-eqb, ne-eqb}
+use lib.ListN.{length, take, getD}
+use Rattle.text.specs.Text.{text}
+use Rattle.script.specs.declared.number.Number.the-variants.{Value, Bad}
+use Rattle.script.specs.declared.item.Item.the-variants as I
+use Rattle.script.specs.declared.item.Bytes.the-variants as B
+use Rattle.script.specs.Words.{word, others, same, wordsFrom}
+use Rattle.script.specs.Numbers.{decimal}
+use Rattle.script.specs.Items.{more, one, bytes, leading, byteItem, packetItem, packetBytes, tickItem, sentItem, roomItem, nameItem, named, namedBytes, itemOf, itemBytes, bare, comment, lineItem, lineBytes}
+use Rattle.script.proofs.Words.{some}
+use Rattle.script.proofs.Numbers.{decimal-within}
+
+pub one-within : (most : ℕ) (ws : List (List ℕ)) (n : ℕ) → one most ws ≡ Value n → n ≤ most
+one-within most ws n e = go (more (others ws)) e
+  where
+    go : (t : Bool) → cond t Bad (decimal most (word ws)) ≡ Value n → n ≤ most
+    go true q = let z : _≡_ {A = ℕ} 0 1 = cc in absurd (omega arith)
+    go false q = decimal-within most (word ws) n q
+
+-- byte asks for one byte at least
+pub bytes-none : (n : ℕ) → n ≡ 0 → bytes (B.Count n) ≡ I.Bad
+bytes-none zero h = refl
+bytes-none (suc n) h = absurd (omega arith)
+
+pub bytes-some : (n : ℕ) → (n ≡ 0 → ⊥) → bytes (B.Count n) ≡ I.Bytes n
+bytes-some zero h = absurd (h refl)
+bytes-some (suc n) h = refl
+
+-- ---- the line of some words, by its name
+
+module _ (room : ℕ) (ws : List (List ℕ)) where
+  pub line-none : ws ≡ [] → (itemOf room ws ≡ I.Nothing) × (itemBytes room ws ≡ [])
+  line-none e = (rw e, rw e)
+
+module _ (room : ℕ) (ws : List (List ℕ)) (h : length (word ws) ≡ 0 → ⊥) where
+  item-named : itemOf room ws ≡ named room (word ws) (others ws)
+  item-named = ap (itemOf room) (some ws h)
+
+  bytes-named : itemBytes room ws ≡ namedBytes room (word ws) (others ws)
+  bytes-named = ap (itemBytes room) (some ws h)
+
+  pub line-byte : same (word ws) (text "byte") ≡ true
+      → (itemOf room ws ≡ byteItem room (others ws)) × (itemBytes room ws ≡ take room (leading (others ws)))
+  unfolding named namedBytes
+  line-byte b = (item-named ∙ simp b, bytes-named ∙ simp b)
+
+  module _ (b : same (word ws) (text "byte") ≡ false) where
+    pub line-packet : same (word ws) (text "packet") ≡ true
+        → (itemOf room ws ≡ packetItem room (others ws)) × (itemBytes room ws ≡ packetBytes room (others ws))
+    unfolding named namedBytes
+    line-packet p = (item-named ∙ simp (b, p), bytes-named ∙ simp (b, p))
+
+    module _ (p : same (word ws) (text "packet") ≡ false) where
+      pub line-without : itemBytes room ws ≡ []
+      unfolding namedBytes
+      line-without = bytes-named ∙ simp (b, p)
+
+      pub line-tick : same (word ws) (text "tick") ≡ true → itemOf room ws ≡ tickItem (others ws)
+      unfolding named
+      line-tick t = item-named ∙ simp (b, p, t)
+
+      module _ (t : same (word ws) (text "tick") ≡ false) where
+        pub line-sent : same (word ws) (text "sent") ≡ true → itemOf room ws ≡ sentItem (others ws)
+        unfolding named
+        line-sent s = item-named ∙ simp (b, p, t, s)
+
+        module _ (s : same (word ws) (text "sent") ≡ false) where
+          pub line-room : same (word ws) (text "room") ≡ true → itemOf room ws ≡ roomItem (others ws)
+          unfolding named
+          line-room r = item-named ∙ simp (b, p, t, s, r)
+
+          module _ (r : same (word ws) (text "room") ≡ false) where
+            pub line-more : more (others ws) ≡ true → itemOf room ws ≡ I.Bad
+            unfolding named
+            line-more m = item-named ∙ simp (b, p, t, s, r, m)
+
+            pub line-alone : more (others ws) ≡ false → itemOf room ws ≡ nameItem (word ws)
+            unfolding named
+            line-alone m = item-named ∙ simp (b, p, t, s, r, m)
+
+-- ---- a carriage return at the end
+
+pub bare-return : (l : List ℕ) (n : ℕ) → length l ≡ suc n → getD l n 0 ≡ code "\r" → bare l ≡ take n l
+unfolding bare
+bare-return [] n h e = absurd (omega arith)
+bare-return (c ∷ []) zero h e = simp (eq-eqb c _ e)
+bare-return (c ∷ []) (suc n) h e = absurd (omega arith)
+bare-return (c ∷ d ∷ s) zero h e = absurd (omega arith)
+bare-return (c ∷ d ∷ s) (suc n) h e = ap (λ (l : List ℕ). c ∷ l) (bare-return (d ∷ s) n (omega (arith, h)) e)
+
+pub bare-other : (l : List ℕ) (n : ℕ) → length l ≡ suc n → (getD l n 0 ≡ code "\r" → ⊥) → bare l ≡ l
+unfolding bare
+bare-other [] n h e = absurd (omega arith)
+bare-other (c ∷ []) zero h e = simp (ne-eqb c _ e)
+bare-other (c ∷ []) (suc n) h e = absurd (omega arith)
+bare-other (c ∷ d ∷ s) zero h e = absurd (omega arith)
+bare-other (c ∷ d ∷ s) (suc n) h e = ap (λ (l : List ℕ). c ∷ l) (bare-other (d ∷ s) n (omega (arith, h)) e)
+
+-- ---- a comment
+
+pub is-comment : (l : List ℕ) → (length l ≡ 0 → ⊥) → getD l 0 0 ≡ code "#" → comment l ≡ true
+is-comment [] h e = absurd (h refl)
+is-comment (c ∷ l) h e = eq-eqb c _ e
+
+pub no-comment : (l : List ℕ) → (getD l 0 0 ≡ code "#" → ⊥) → comment l ≡ false
+no-comment [] e = refl
+no-comment (c ∷ l) e = ne-eqb c _ e
+
+pub empty-line : (room : ℕ) (l : List ℕ) → length l ≡ 0 → (lineItem room l ≡ I.Nothing) × (lineBytes room l ≡ [])
+unfolding wordsFrom bare
+empty-line room [] h = (refl, refl)
+empty-line room (c ∷ l) h = absurd (omega arith)

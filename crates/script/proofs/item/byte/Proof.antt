@@ -1,0 +1,52 @@
+-- As many bytes as words, and one at least.
+-- Assumes nothing.
+use mathlib.Core.Path.{sym, ap, _∙_}
+use Rattle.script.specs.Items.{bytes}
+use Rattle.script.proofs.Items.{bytes-none, bytes-some}
+use borrow.Author.Needs.{needs}
+use Rattle.script.proofs.item.byte.Statement.{statement}
+use Rattle.script.proofs.item.byte.Tie as tie
+
+all-bytes-requires : tie.Need-all-bytes-requires
+all-bytes-requires c κs = search needs
+
+enum-known-n : tie.Need-enum-known-n
+enum-known-n c = search needs
+
+enum-told : tie.Need-enum-told
+enum-told c = search needs
+
+same-length : tie.Need-same-length
+same-length c = search needs
+
+returns : tie.Need-returns
+returns c =
+    (sym (ap bytes (sym (c .before .before .before .before .all-bytes .ensures .0) ∙ c .enum-told .given .1)), c .before .before .before .before .all-bytes .ensures .1)
+
+same-length-2 : tie.Need-same-length-2
+same-length-2 c = search needs
+
+returns-2 : tie.Need-returns-2
+returns-2 c =
+    (sym (ap bytes (sym (c .before .before .before .before .before .before .all-bytes .ensures .0) ∙ c .before .before .n .given .1) ∙ bytes-none _ (c .if1 .taken)), c .before .before .before .before .before .before .all-bytes .ensures .1)
+
+same-length-3 : tie.Need-same-length-3
+same-length-3 c = search needs
+
+returns-3 : tie.Need-returns-3
+returns-3 c =
+    (sym (ap bytes (sym (c .before .before .before .before .before .before .all-bytes .ensures .0) ∙ c .before .before .n .given .1) ∙ bytes-some _ (c .if1 .left)), c .before .before .before .before .before .before .all-bytes .ensures .1)
+
+pub byte-spec : {M : Type 1} → statement M
+byte-spec =
+    tie.close
+    (tie.spec
+    all-bytes-requires
+    enum-known-n
+    enum-told
+    same-length
+    returns
+    same-length-2
+    returns-2
+    same-length-3
+    returns-3)

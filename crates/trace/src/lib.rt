@@ -1,0 +1,159 @@
+// A line of a trace. Each function writes from an index on, and answers where what it wrote ends.
+// Helpers of the crates above: they show that there is room.
+ghost use mathlib.Core.Path.{_≡_};
+ghost use Prim.Native.Nat.{_+_, _≤_};
+ghost use lib.ListN.{length};
+ghost use Rattle.buffer.specs.Lay.{lay};
+ghost use Rattle.trace.specs.Traces.{none, plain, flag, orderText, bytesText, lineEnd, traceLine, eventText, countLine, badLine, eventsLine};
+use control::Answer;
+use control::Order;
+
+// Whether there is no order.
+fn is_none(o: Order) -> bool
+    ensures { λ r. ⌜ r ≡ none o ⌝ }
+{
+    match o {
+        Order::Nothing => true,
+        Order::Standby => false,
+        Order::Configure {
+            at: _,
+            len: _,
+            ldro: _,
+        } => false,
+        Order::Transmit {
+            at: _,
+            len: _,
+            listen: _,
+        } => false,
+        Order::Receive => false,
+    }
+}
+
+// Whether an answer is plain: taken, with nothing written and no order.
+pub fn is_plain(a: Answer) -> bool
+    ensures { λ r. ⌜ r ≡ plain a ⌝ }
+{
+    if a.number != 0 {
+        return false;
+    }
+    if a.written != 0 {
+        return false;
+    }
+    let o = a.order;
+    is_none(o)
+}
+
+// Writes 1 or 0, and a slash.
+fn put_flag(on: bool, dst: &mut [u8], from: usize) -> usize
+    requires { ⌜ from + length (flag on) ≤ length (now dst) ⌝ }
+    ensures { λ r. ⌜ r ≡ from + length (flag on) ⌝ }
+    ensures { λ r. ⌜ now (dst .exit) ≡ lay from (flag on) (now (dst .entry)) ⌝ }
+{
+    if on {
+        return text::put(b"1/", dst, from);
+    }
+    text::put(b"0/", dst, from)
+}
+
+// Writes an order, with the bytes that it names in the memory of commands.
+fn put_order(o: Order, commands: &[u8], dst: &mut [u8], from: usize) -> usize
+    requires { ⌜ from + length (orderText o (now commands)) ≤ length (now dst) ⌝ }
+    ensures { λ r. ⌜ r ≡ from + length (orderText o (now (commands .entry))) ⌝ }
+    ensures { λ r. ⌜ now (dst .exit) ≡ lay from (orderText o (now (commands .entry))) (now (dst .entry)) ⌝ }
+{
+    match o {
+        Order::Nothing => text::put(b"none", dst, from),
+        Order::Standby => text::put(b"standby", dst, from),
+        Order::Configure { at, len, ldro } => {
+            let named = text::put(b"configure/", dst, from);
+            let flagged = put_flag(ldro, dst, named);
+            text::hex(buffer::part(commands, at, len), dst, flagged)
+        }
+        Order::Transmit { at, len, listen } => {
+            let named = text::put(b"transmit/", dst, from);
+            let flagged = put_flag(listen, dst, named);
+            text::hex(buffer::part(commands, at, len), dst, flagged)
+        }
+        Order::Receive => text::put(b"receive", dst, from),
+    }
+}
+
+// Writes bytes, or that there are none.
+fn put_bytes(bytes: &[u8], dst: &mut [u8], from: usize) -> usize
+    requires { ⌜ from + length (bytesText (now bytes)) ≤ length (now dst) ⌝ }
+    ensures { λ r. ⌜ r ≡ from + length (bytesText (now (bytes .entry))) ⌝ }
+    ensures { λ r. ⌜ now (dst .exit) ≡ lay from (bytesText (now (bytes .entry))) (now (dst .entry)) ⌝ }
+{
+    if bytes.len() == 0 {
+        return text::put(b"-", dst, from);
+    }
+    text::hex(bytes, dst, from)
+}
+
+// Writes the last column, and ends the line.
+fn put_end(bytes: &[u8], dst: &mut [u8], from: usize) -> usize
+    requires { ⌜ from + length (lineEnd (now bytes)) ≤ length (now dst) ⌝ }
+    ensures { λ r. ⌜ r ≡ from + length (lineEnd (now (bytes .entry))) ⌝ }
+    ensures { λ r. ⌜ now (dst .exit) ≡ lay from (lineEnd (now (bytes .entry))) (now (dst .entry)) ⌝ }
+{
+    let space = text::put(b" ", dst, from);
+    let end = put_bytes(bytes, dst, space);
+    text::put(b"\n", dst, end)
+}
+
+// Writes the line of the event with index k.
+fn put_line(k: u64, a: Answer, commands: &[u8], out: &[u8], dst: &mut [u8], from: usize) -> usize
+    requires { ⌜ from + length (traceLine k a (now commands) (now out)) ≤ length (now dst) ⌝ }
+    ensures { λ r. ⌜ r ≡ from + length (traceLine k a (now (commands .entry)) (now (out .entry))) ⌝ }
+    ensures { λ r. ⌜ now (dst .exit) ≡ lay from (traceLine k a (now (commands .entry)) (now (out .entry))) (now (dst .entry)) ⌝ }
+{
+    let index = text::decimal(k, dst, from);
+    let space = text::put(b" ", dst, index);
+    let number = text::decimal(a.number as u64, dst, space);
+    let next = text::put(b" ", dst, number);
+    let o = a.order;
+    let ordered = put_order(o, commands, dst, next);
+    put_end(buffer::part(out, 0, a.written), dst, ordered)
+}
+
+// Writes the line of the event with index k, if its answer is not plain: out has what the event
+// wrote, and commands is the memory of commands.
+pub fn event(k: u64, a: Answer, commands: &[u8], out: &[u8], dst: &mut [u8], from: usize) -> usize
+    requires { ⌜ from + length (eventText k a (now commands) (now out)) ≤ length (now dst) ⌝ }
+    ensures { λ r. ⌜ r ≡ from + length (eventText k a (now (commands .entry)) (now (out .entry))) ⌝ }
+    ensures { λ r. ⌜ now (dst .exit) ≡ lay from (eventText k a (now (commands .entry)) (now (out .entry))) (now (dst .entry)) ⌝ }
+{
+    if is_plain(a) {
+        return from;
+    }
+    put_line(k, a, commands, out, dst, from)
+}
+
+// Writes a line of a name and a number.
+fn put_count(name: &[u8], n: u64, dst: &mut [u8], from: usize) -> usize
+    requires { ⌜ from + length (countLine (now name) n) ≤ length (now dst) ⌝ }
+    ensures { λ r. ⌜ r ≡ from + length (countLine (now (name .entry)) n) ⌝ }
+    ensures { λ r. ⌜ now (dst .exit) ≡ lay from (countLine (now (name .entry)) n) (now (dst .entry)) ⌝ }
+{
+    let named = text::put(name, dst, from);
+    let number = text::decimal(n, dst, named);
+    text::put(b"\n", dst, number)
+}
+
+// Writes that the line with number n, from 1, is bad.
+pub fn bad_line(n: u64, dst: &mut [u8], from: usize) -> usize
+    requires { ⌜ from + length (badLine n) ≤ length (now dst) ⌝ }
+    ensures { λ r. ⌜ r ≡ from + length (badLine n) ⌝ }
+    ensures { λ r. ⌜ now (dst .exit) ≡ lay from (badLine n) (now (dst .entry)) ⌝ }
+{
+    put_count(b"bad line ", n, dst, from)
+}
+
+// Writes the last line: how many events there were.
+pub fn events(n: u64, dst: &mut [u8], from: usize) -> usize
+    requires { ⌜ from + length (eventsLine n) ≤ length (now dst) ⌝ }
+    ensures { λ r. ⌜ r ≡ from + length (eventsLine n) ⌝ }
+    ensures { λ r. ⌜ now (dst .exit) ≡ lay from (eventsLine n) (now (dst .entry)) ⌝ }
+{
+    put_count(b"events ", n, dst, from)
+}
