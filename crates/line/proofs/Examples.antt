@@ -7,8 +7,8 @@ use Rattle.crc16.specs.Crc.{bit, bits, byte, crcFrom, crcOf}
 use Rattle.cobs.specs.Decoding.{hasZero, whole, broken, parts, groups, joined, decoded}
 use Rattle.scalar.specs.Scalars.{number}
 use Rattle.frame.specs.Reading.{openBody, openAnswer}
-use Rattle.line.specs.Text.{text}
-use Rattle.line.specs.Lines.{lastDigits, decimal, hex4, heading, name, line, lineOf, lines, listing}
+use Rattle.text.specs.Text.{text, lastDigits, decimal}
+use Rattle.line.specs.Lines.{hex4, heading, name, line, lineOf, lines, listing}
 
 -- a number has no zero in front, but zero itself is one digit
 pub zero : decimal 0 ≡ text "0"

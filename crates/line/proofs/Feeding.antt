@@ -10,7 +10,7 @@ use Rattle.buffer.specs.Lay.{lay}
 use Rattle.buffer.proofs.Laws.{next as next-byte, no-more}
 use Rattle.buffer.proofs.Laying.{Laying, start, done, fits}
 use Rattle.line.specs.Stream.{lineMax, keep, lineRun, Place, next, after, adds}
-use Rattle.line.proofs.Writing.{wrote}
+use Rattle.text.proofs.Writing.{wrote}
 use Rattle.line.proofs.Lengths.{length-adds}
 
 abbrev pub place : ℕ → ℕ → List ℕ → Place

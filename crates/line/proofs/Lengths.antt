@@ -12,7 +12,7 @@ use Rattle.frame.specs.declared.Opened.the-variants as O
 use Rattle.line.specs.Lines.{hex4, typeColumn, tagColumn, lenColumn, line}
 use Rattle.line.specs.Stream.{lineMax, openRun, lineRun, Place, next, after, adds, placeOf, fed}
 use Rattle.line.specs.declared.Stream.{Stream}
-use Rattle.line.proofs.Digits.{length-decimal}
+use Rattle.text.proofs.Digits.{length-decimal}
 use Rattle.line.proofs.Names.{length-name}
 
 length-type : (o : Opened) → length (typeColumn o) ≤ 10

@@ -8,7 +8,7 @@ use borrow.Author.Tests.{ne-eqb}
 use lib.Dec.{T, leb, eqb, lit≤}
 use lib.ListN.{length}
 use Rattle.kind.specs.Kinds.{PING, GET-INFO, SET-CONFIG, TX, RX-START, RX-STOP, OK, ERR, RX, TX-DONE}
-use Rattle.line.specs.Text.{text}
+use Rattle.text.specs.Text.{text}
 use Rattle.line.specs.Lines.{name}
 
 pub unknown : (k : ℕ) → (k ≡ PING → ⊥) → (k ≡ GET-INFO → ⊥) → (k ≡ SET-CONFIG → ⊥) → (k ≡ TX → ⊥) → (k ≡ RX-START → ⊥)

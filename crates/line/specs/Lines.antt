@@ -2,7 +2,6 @@
 -- A capture is bytes from the wire. A zero ends a run; the bytes before it are the run.
 -- Assumes nothing.
 use Prim.Native.Nat.{ℕ, zero, suc, _+_, _-_, _/_, _%_}
-use Prim.Native.Char.{code}
 use mathlib.Core.Bool.{cond}
 use mathlib.Core.List.{List, [], _∷_, _++_}
 use lib.Dec.{ltb, eqb}
@@ -12,22 +11,9 @@ use Rattle.frame.specs.Reading.{openAnswer}
 use Rattle.frame.specs.declared.Opened.{Opened}
 use Rattle.frame.specs.declared.Opened.the-variants as O
 use Rattle.kind.specs.Kinds.{PING, GET-INFO, SET-CONFIG, TX, RX-START, RX-STOP, OK, ERR, RX, TX-DONE}
-use Rattle.line.specs.Text.{text}
+use Rattle.text.specs.Text.{text, digit, decimal}
 
 -- ---- numbers
-
--- a digit below 16: `0` to `9`, then `A` to `F`
-abbrev pub digit : ℕ → ℕ
-digit d = cond (ltb d 10) (code "0" + d) (code "A" + (d - 10))
-
--- the last k decimal digits of n, with no zero in front
-unfoldable pub lastDigits : ℕ → ℕ → List ℕ
-lastDigits zero n = []
-lastDigits (suc k) n = cond (ltb n 10) [] (lastDigits k (n / 10)) ++ (digit (n % 10) ∷ [])
-
--- a number in decimal: an offset or a length is under 2^64, and so has 20 digits at most
-unfoldable pub decimal : ℕ → List ℕ
-decimal n = lastDigits 20 n
 
 -- four hexadecimal digits
 unfoldable pub hex4 : ℕ → List ℕ

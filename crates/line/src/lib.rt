@@ -4,7 +4,8 @@ ghost use Prim.Native.Nat.{_+_, _*_, _≤_, _<_, _^_};
 ghost use lib.ListN.{length};
 ghost use Rattle.buffer.specs.Lay.{lay};
 ghost use Rattle.cobs.specs.Answers.{encodedMax};
-ghost use Rattle.line.specs.Lines.{digit, decimal, hex4, heading, name, lastColumn, line};
+ghost use Rattle.text.specs.Text.{digit};
+ghost use Rattle.line.specs.Lines.{hex4, heading, name, lastColumn, line};
 ghost use Rattle.line.specs.Stream.{lineMax, keep, openRun, lineRun, placeOf, after, adds, started, fed};
 use cobs::ENCODED_MAX;
 use frame::Opened;
@@ -36,27 +37,6 @@ pub struct Stream {
     pub filled: usize,
 }
 
-// Writes text to dst, from index from on, and answers where it ends.
-fn put(text: &[u8], dst: &mut [u8], from: usize) -> usize
-    requires { ⌜ from + length (now text) ≤ length (now dst) ⌝ }
-    ensures { λ r. ⌜ r ≡ from + length (now (text .entry)) ⌝ }
-    ensures { λ r. ⌜ now (dst .exit) ≡ lay from (now (text .entry)) (now (dst .entry)) ⌝ }
-{
-    buffer::copy(text, dst, from);
-    from + text.len()
-}
-
-// Writes a number in decimal.
-fn decimal(n: u64, dst: &mut [u8], from: usize) -> usize
-    requires { ⌜ from + length (decimal n) ≤ length (now dst) ⌝ }
-    ensures { λ r. ⌜ r ≡ from + length (decimal n) ⌝ }
-    ensures { λ r. ⌜ now (dst .exit) ≡ lay from (decimal n) (now (dst .entry)) ⌝ }
-{
-    let mut digits = [0u8; 20];
-    let k = io::decimal(n, &mut digits);
-    put(&digits[..k], dst, from)
-}
-
 // One hexadecimal digit, in upper case.
 fn digit(d: u16) -> u8
     requires { ⌜ d < 16 ⌝ }
@@ -81,7 +61,7 @@ fn hex4(n: u16, dst: &mut [u8], from: usize) -> usize
         digit(n / 16 % 16),
         digit(n % 16),
     ];
-    put(&text, dst, from)
+    text::put(&text, dst, from)
 }
 
 // Writes the name of a type.
@@ -91,17 +71,17 @@ fn name(kind: u8, dst: &mut [u8], from: usize) -> usize
     ensures { λ r. ⌜ now (dst .exit) ≡ lay from (name kind) (now (dst .entry)) ⌝ }
 {
     match kind {
-        PING => put(b"PING", dst, from),
-        GET_INFO => put(b"GET_INFO", dst, from),
-        SET_CONFIG => put(b"SET_CONFIG", dst, from),
-        TX => put(b"TX", dst, from),
-        RX_START => put(b"RX_START", dst, from),
-        RX_STOP => put(b"RX_STOP", dst, from),
-        OK => put(b"OK", dst, from),
-        ERR => put(b"ERR", dst, from),
-        RX => put(b"RX", dst, from),
-        TX_DONE => put(b"TX_DONE", dst, from),
-        _ => put(b"?", dst, from),
+        PING => text::put(b"PING", dst, from),
+        GET_INFO => text::put(b"GET_INFO", dst, from),
+        SET_CONFIG => text::put(b"SET_CONFIG", dst, from),
+        TX => text::put(b"TX", dst, from),
+        RX_START => text::put(b"RX_START", dst, from),
+        RX_STOP => text::put(b"RX_STOP", dst, from),
+        OK => text::put(b"OK", dst, from),
+        ERR => text::put(b"ERR", dst, from),
+        RX => text::put(b"RX", dst, from),
+        TX_DONE => text::put(b"TX_DONE", dst, from),
+        _ => text::put(b"?", dst, from),
     }
 }
 
@@ -111,9 +91,9 @@ fn last_column(n: u64, dst: &mut [u8], from: usize) -> usize
     ensures { λ r. ⌜ r ≡ from + length (lastColumn n) ⌝ }
     ensures { λ r. ⌜ now (dst .exit) ≡ lay from (lastColumn n) (now (dst .entry)) ⌝ }
 {
-    let space = put(b" ", dst, from);
-    let end = decimal(n, dst, space);
-    put(b"\n", dst, end)
+    let space = text::put(b" ", dst, from);
+    let end = text::decimal(n, dst, space);
+    text::put(b"\n", dst, end)
 }
 
 // Writes the line of a run: its offset, what opening it answers, and its length.
@@ -122,14 +102,14 @@ fn line(at: u64, opened: Opened, n: u64, dst: &mut [u8], from: usize) -> usize
     ensures { λ r. ⌜ r ≡ from + length (line at opened n) ⌝ }
     ensures { λ r. ⌜ now (dst .exit) ≡ lay from (line at opened n) (now (dst .entry)) ⌝ }
 {
-    let offset = decimal(at, dst, from);
+    let offset = text::decimal(at, dst, from);
     let Opened::Body { kind, tag, len } = opened else {
-        let bad = put(b" BAD -", dst, offset);
+        let bad = text::put(b" BAD -", dst, offset);
         return last_column(n, dst, bad);
     };
-    let space = put(b" ", dst, offset);
+    let space = text::put(b" ", dst, offset);
     let named = name(kind, dst, space);
-    let next = put(b" ", dst, named);
+    let next = text::put(b" ", dst, named);
     let tagged = hex4(tag, dst, next);
     last_column(len as u64, dst, tagged)
 }
@@ -177,7 +157,7 @@ pub fn start(dst: &mut [u8]) -> Stream
     ensures { λ r. ⌜ r ≡ started ⌝ }
     ensures { λ r. ⌜ now (dst .exit) ≡ lay 0 heading (now (dst .entry)) ⌝ }
 {
-    let filled = put(b"at type tag len\n", dst, 0);
+    let filled = text::put(b"at type tag len\n", dst, 0);
     Stream {
         at: 0,
         len: 0,

@@ -1,9 +1,9 @@
 -- Each call lays the next piece of the line.
 -- Assumes nothing.
 use Rattle.buffer.proofs.Laying.{start, fits}
-use Rattle.line.specs.Text.{text}
-use Rattle.line.specs.Lines.{decimal, hex4, name, line}
-use Rattle.line.proofs.Writing.{wrote, last-fits, ended}
+use Rattle.text.specs.Text.{text, decimal}
+use Rattle.line.specs.Lines.{hex4, name, line}
+use Rattle.text.proofs.Writing.{wrote, last-fits, ended}
 use borrow.Author.Needs.{needs}
 use Rattle.line.proofs.line.Statement.{statement}
 use Rattle.line.proofs.line.Tie as tie
