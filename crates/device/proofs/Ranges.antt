@@ -433,11 +433,11 @@ module _ (b : Board) (s : State) (kind : ℕ) (p : List ℕ) where
         record { tag = k; config = record { values = config-in p bytes; word = w .0; short = w .1 } }
 
 -- a command's tag is a u16 and not zero, and its payload is of bytes
-abbrev ReceivedIn : Received → Type 0
+abbrev pub ReceivedIn : Received → Type 0
 ReceivedIn damaged = Unit {0}
 ReceivedIn (command kind t p) = TagIn t × Bytes p
 
-received-in : (run : List ℕ) → Bytes run → ReceivedIn (received run)
+pub received-in : (run : List ℕ) → Bytes run → ReceivedIn (received run)
 unfolding received frameIn
 received-in run h = go (openAnswer run encodedMax) refl
   where

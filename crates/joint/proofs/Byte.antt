@@ -1,30 +1,22 @@
 -- A byte, in code and in the definition: a zero that ends the run, or another that joins it.
 -- Assumes nothing.
-use mathlib.Core.Path.{_≡_, refl, sym, ap, subst}
+use mathlib.Core.Path.{_≡_, sym, ap, subst}
 use mathlib.Core.Bool.{true, false}
 use mathlib.Core.List.{List, [], _∷_}
 use Prim.Native.Nat.{ℕ, zero, suc, _-_, _<_}
 use native.Mathlib.Omega.{arith}
 use borrow.Author.Tests.{lt-ltb, le-ltb}
-use lib.ListN.{length, drop}
+use lib.ListN.{length}
 use lib.Seq.{length-take-le}
-use Rattle.cobs.specs.Answers.{encodedMax}
-use Rattle.cobs.specs.Decoding.{decoded}
-use Rattle.scalar.specs.Bytes.{IsByte, Bytes}
-use Rattle.scalar.proofs.Bytes.{each-take, each-drop}
-use Rattle.frame.specs.Body.{overhead, payloadOf}
+use Rattle.scalar.specs.Bytes.{Bytes}
 use Rattle.frame.specs.Reading.{openAnswer}
-use Rattle.frame.specs.declared.Opened.{Opened}
-use Rattle.frame.specs.declared.Opened.the-variants as O
-use Rattle.frame.proofs.Bytes.{decoded-bytes, opened-tag}
 use Rattle.board.specs.Board.{sx1262}
 use Rattle.device.specs.State.{State}
 use Rattle.device.specs.State as S
-use Rattle.device.specs.Messages.{frameIn, found, err, EFRAME}
-use Rattle.device.specs.Frames.{Received, damaged, command, received, untagged}
+use Rattle.device.specs.Messages.{frameIn, err, EFRAME}
+use Rattle.device.specs.Frames.{Received, damaged, command, received}
 use Rattle.device.specs.Events as E
-use Rattle.device.proofs.Back.{TagIn}
-use Rattle.device.proofs.Ranges.{AirIn}
+use Rattle.device.proofs.Ranges.{AirIn, ReceivedIn, received-in}
 use Rattle.control.specs.declared.Device.{Device}
 use Rattle.control.specs.Control.{link, withLink, stalled}
 use Rattle.dispatch.specs.Commands.{Ruled, onReceived}
@@ -35,22 +27,6 @@ use Rattle.joint.proofs.Commands.{Ruling, answers}
 use Rattle.joint.proofs.Commands as C
 
 -- ---- what a run brings
-
--- a command's tag is a u16 and not zero, and its payload is of bytes
-abbrev ReceivedIn : Received → Type 0
-ReceivedIn damaged = Unit {0}
-ReceivedIn (command kind t p) = TagIn t × Bytes p
-
-received-in : (run : List ℕ) → Bytes run → ReceivedIn (received run)
-unfolding received frameIn
-received-in run h = go (openAnswer run encodedMax) refl
-  where
-    go : (o : Opened) → openAnswer run encodedMax ≡ o → ReceivedIn (untagged (found o (payloadOf (decoded run))))
-    go (O.Body kind zero n) e = tt
-    go (O.Body kind (suc t) n) e =
-        let b = decoded run in
-        ((omega arith, opened-tag run encodedMax h e), each-take IsByte (length b - overhead) (drop 3 b) (each-drop IsByte 3 b (decoded-bytes run h)))
-    go (O.Refused r) e = tt
 
 -- one that is too long is damaged
 long-damaged : (run : List ℕ) → 282 < length run → received run ≡ damaged
