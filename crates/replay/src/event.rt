@@ -11,19 +11,19 @@ use script::Item;
 // The output that is lent at the start.
 const ROOM: usize = 283;
 // More output than this is not lent: no event tells the difference.
-pub const ROOM_MAX: usize = 4096;
+const ROOM_MAX: usize = 4096;
 
 const MOST: u64 = 4096;
 
 // Where a replay stands: the device, how many events there were, and how much output is lent.
-pub struct Replay {
-    pub device: Device,
-    pub events: u64,
-    pub room: usize,
+pub(crate) struct Replay {
+    pub(crate) device: Device,
+    pub(crate) events: u64,
+    pub(crate) room: usize,
 }
 
 // A replay at its start.
-pub fn start() -> Replay {
+pub(crate) fn start() -> Replay {
     Replay {
         device: control::power_up(),
         events: 0,
@@ -32,7 +32,7 @@ pub fn start() -> Replay {
 }
 
 // One more. No script has 2^64 events or lines.
-pub fn more(n: u64) -> u64 {
+pub(crate) fn more(n: u64) -> u64 {
     if n == 0xFFFFFFFFFFFFFFFF {
         return n;
     }
@@ -185,7 +185,7 @@ fn room(s: Replay, n: u64) -> Replay {
 }
 
 // Runs the events of a line; memory has its bytes.
-pub fn run(
+pub(crate) fn run(
     s: Replay,
     item: Item,
     memory: &[u8],

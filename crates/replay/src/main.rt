@@ -5,7 +5,6 @@ ghost use lib.ListN.{length};
 mod event;
 mod print;
 
-use crate::event::ROOM_MAX;
 use crate::event::Replay;
 use inbox::PACKETS;
 use libc::STDERR_FILENO;

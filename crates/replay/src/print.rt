@@ -5,7 +5,7 @@ use libc::STDOUT_FILENO;
 use queue::COMMANDS;
 
 // So much output is shown at most: no event writes as much.
-pub const OUT: usize = 4096;
+const OUT: usize = 4096;
 // The longest line: two numbers, an order with all of the memory of commands in hexadecimal, so much
 // output, and what stands between them.
 const LINE: usize = 17700;
@@ -21,7 +21,7 @@ fn flush(text: &[u8], n: usize) {
 }
 
 // Writes the line of an event, unless its answer is plain.
-pub fn note(index: u64, a: Answer, commands: &[u8; COMMANDS], out: &[u8]) {
+pub(crate) fn note(index: u64, a: Answer, commands: &[u8; COMMANDS], out: &[u8]) {
     if trace::is_plain(a) {
         return;
     }
@@ -31,14 +31,14 @@ pub fn note(index: u64, a: Answer, commands: &[u8; COMMANDS], out: &[u8]) {
 }
 
 // Writes that a line of the script is bad.
-pub fn bad_line(n: u64) {
+pub(crate) fn bad_line(n: u64) {
     let mut text = [0u8; LAST];
     let k = trace::bad_line(n, &mut text, 0);
     flush(&text, k);
 }
 
 // Writes how many events there were.
-pub fn events(n: u64) {
+pub(crate) fn events(n: u64) {
     let mut text = [0u8; LAST];
     let k = trace::events(n, &mut text, 0);
     flush(&text, k);
