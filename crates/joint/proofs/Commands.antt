@@ -37,7 +37,7 @@ use Rattle.queue.specs.Slots.{setting, slotBytes, kept}
 use Rattle.queue.specs.Queue.{start}
 use Rattle.objection.proofs.Laws.{none-set, none-tx, TxIn}
 use Rattle.dispatch.specs.Commands.{Ruled, ruled, open#, slotFor, waitsToo, onTx, pends, sets, onSet, turned, onCommand, unless, judged}
-use Rattle.joint.specs.Machine.{orderIn}
+use Rattle.joint.specs.Seen.{orderIn}
 use Rattle.joint.proofs.Slots.{laid, wheel16, ring-push, ring-apart}
 use Rattle.joint.proofs.Stands.{SetAt, RadioAs, as-free, as-listening, as-onAir, as-orphan, as-configuring, PendingAs, as-none, as-some, txSlot, TxAt, Queue, AirAs, Stands, Agrees, quietly, empty-inbox, with-air, with-inbox, same-bare}
 use Rattle.joint.proofs.Outcomes.{length-tags, begins, starts, idle-as}

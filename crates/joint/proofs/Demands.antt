@@ -16,7 +16,8 @@ use Rattle.device.proofs.History as H
 use Rattle.device.proofs.Carrying.{InStep, given-in, demand2-wire-carried, demand3-carried, in-time-carried, drop-count-carried}
 use Rattle.control.specs.declared.Radio.{Radio}
 use Rattle.queue.specs.Queue.{waitingTags}
-use Rattle.joint.specs.Machine.{Machine, Call, held}
+use Rattle.machine.specs.Machine.{Machine, Call}
+use Rattle.joint.specs.Seen.{held}
 use Rattle.joint.specs.Joined.{Memories, inputOf, CallIn}
 use Rattle.joint.specs.Demands.{coded}
 use Rattle.joint.proofs.Stands.{RadioAs, as-free, as-listening, as-onAir, as-orphan, as-configuring}

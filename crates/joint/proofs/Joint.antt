@@ -33,7 +33,8 @@ use Rattle.control.specs.Control.{link, withLink, free?, stalled, Done, refused
 use Rattle.outcome.specs.Outcomes.{onClear, onBusy, onSent, onConfigured, onFault, clearDone, busyDone, sentDone, configuredDone, faultDone}
 use Rattle.inbox.specs.Packets.{onPacket, onRequest, packetDone, requestDone}
 use Rattle.link.specs.Link.{onTick, onDisconnect, tickDone, disconnectDone, Fed, fed, onByte, byteDone}
-use Rattle.joint.specs.Machine.{Machine, Call, Ran, speaks, keepsStill, runsOn, runs, replyOf}
+use Rattle.machine.specs.Machine.{Machine, Call, Ran, speaks, keepsStill, runsOn, runs}
+use Rattle.joint.specs.Seen.{replyOf}
 use Rattle.joint.specs.Joined.{Memories, started, inputOf, CallIn, answers, replies, Joined}
 use Rattle.joint.proofs.Stands.{as-free, Stands, Agrees, refuses, empty-link, empty-air, empty-inbox}
 use Rattle.joint.proofs.Outcomes.{on-clear, on-busy, on-sent, on-configured, on-fault}

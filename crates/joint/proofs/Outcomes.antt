@@ -23,7 +23,7 @@ use Rattle.control.specs.Control.{withRadio, Done, says, idle}
 use Rattle.outcome.specs.Outcomes.{noted, lost, inForce, onClear, onBusy, onSent, onConfigured, onFault}
 use Rattle.queue.specs.Slots.{headAt}
 use Rattle.queue.specs.Queue.{listens, begun, start, waitingTags, begin, next, afterTx}
-use Rattle.joint.specs.Machine.{orderIn}
+use Rattle.joint.specs.Seen.{orderIn}
 use Rattle.joint.proofs.Stands.{SetAt, RadioAs, as-free, as-listening, as-onAir, as-orphan, as-configuring, PendingAs, as-none, as-some, TxAt, Queue, AirAs, Stands, Agrees, quietly, refuses, empty-air, with-air, same-listens, tx-tag, tx-flags, tx-packet, set-tag, set-mode, set-order, set-ok}
 
 -- ---- those that wait

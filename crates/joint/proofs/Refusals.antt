@@ -32,7 +32,7 @@ use Rattle.dispatch.specs.Commands.{Ruled, ruled, open#, slotFor, waitsToo, onT
 use Rattle.outcome.specs.Outcomes.{inForce, onClear, onBusy, onSent, onConfigured, onFault, clearDone, busyDone, sentDone, configuredDone, faultDone}
 use Rattle.inbox.specs.Packets.{held, onPacket, onRequest, packetDone, requestDone}
 use Rattle.link.specs.Link.{onTick, onDisconnect, tickDone, disconnectDone, Fed, fed, onJoin, onRun, onZero, onByte, byteDone}
-use Rattle.joint.specs.Machine.{Machine, Call, Ran, speaks, keepsStill, runsOn, runs}
+use Rattle.machine.specs.Machine.{Machine, Call, Ran, speaks, keepsStill, runsOn, runs}
 use Rattle.joint.specs.Demands.{listens?, onAir?, cause, refusal, Demand1, Demand2}
 
 -- ---- what demand 1 says of an answer

@@ -41,7 +41,7 @@ use Rattle.queue.specs.Slots.{slotSize, setting, slotBytes, lenAt, tagAt, headA
 use Rattle.queue.specs.Queue.{listens, ldroAt}
 use Rattle.outcome.specs.Outcomes.{modeOf, okConfigured}
 use Rattle.inbox.specs.Packets as P
-use Rattle.joint.specs.Machine.{configIn, orderIn}
+use Rattle.joint.specs.Seen.{configIn, orderIn}
 use Rattle.joint.proofs.Slots.{At, Slot, Ring}
 
 -- ---- the parts

@@ -21,7 +21,8 @@ use Rattle.control.specs.declared.Radio.the-variants.{Free, Listening, OnAir, O
 use Rattle.control.specs.declared.Order.the-variants.{Nothing}
 use Rattle.control.specs.Control.{link, withLink, free?, runs?, stalled}
 use Rattle.queue.specs.Queue.{waitingTags}
-use Rattle.joint.specs.Machine.{Machine, machine, Call, Ran, runs, replyOf, held}
+use Rattle.machine.specs.Machine.{Machine, machine, Call, Ran, runs}
+use Rattle.joint.specs.Seen.{replyOf, held}
 use Rattle.joint.specs.Joined.{Memories, started, CallIn}
 
 -- ---- demand 1, for every machine

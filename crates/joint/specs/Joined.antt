@@ -14,7 +14,8 @@ use Rattle.device.specs.Ranges.{InputIn}
 use Rattle.control.specs.Control.{powerUp}
 use Rattle.queue.specs.Slots.{commandsSize}
 use Rattle.inbox.specs.Packets.{packetsSize}
-use Rattle.joint.specs.Machine.{Machine, machine, Call, runs, replyOf}
+use Rattle.machine.specs.Machine.{Machine, machine, Call, runs}
+use Rattle.joint.specs.Seen.{replyOf}
 
 -- ---- at power-up
 

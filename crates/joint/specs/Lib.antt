@@ -1,3 +1,3 @@
-pub mod Machine
+pub mod Seen
 pub mod Joined
 pub mod Demands

@@ -1,10 +1,10 @@
 // The events of a script, one after the other: each is run, and its answer is noted in the trace.
 use crate::print;
-use control::Answer;
 use control::Device;
 use inbox::Heard;
 use inbox::PACKETS;
 use link::RUN_MAX;
+use machine::Event;
 use queue::COMMANDS;
 use script::Item;
 
@@ -47,8 +47,18 @@ fn lent(out: &mut [u8], room: usize) -> &mut [u8] {
     out
 }
 
-// An event was run: its answer is noted.
-fn noted(s: Replay, a: Answer, commands: &[u8; COMMANDS], out: &[u8]) -> Replay {
+// An event is run, and its answer is noted; bytes are those of a packet.
+fn step(
+    s: Replay,
+    e: Event,
+    bytes: &[u8],
+    run: &mut [u8; RUN_MAX],
+    commands: &mut [u8; COMMANDS],
+    packets: &mut [u8; PACKETS],
+    out: &mut [u8],
+) -> Replay {
+    let d = s.device;
+    let a = machine::step(d, e, bytes, run, commands, packets, lent(out, s.room));
     print::note(s.events, a, commands, out);
     let device = a.device;
     Replay {
@@ -58,25 +68,13 @@ fn noted(s: Replay, a: Answer, commands: &[u8; COMMANDS], out: &[u8]) -> Replay 
     }
 }
 
-// A byte.
-fn byte(
-    s: Replay,
-    b: u8,
-    run: &mut [u8; RUN_MAX],
-    commands: &mut [u8; COMMANDS],
-    out: &mut [u8],
-) -> Replay {
-    let d = s.device;
-    let a = link::byte(d, b, run, commands, lent(out, s.room));
-    noted(s, a, commands, out)
-}
-
-// Some bytes.
+// A byte event for each of some bytes.
 fn bytes(
     s: Replay,
     all: &[u8],
     run: &mut [u8; RUN_MAX],
     commands: &mut [u8; COMMANDS],
+    packets: &mut [u8; PACKETS],
     out: &mut [u8],
 ) -> Replay {
     let mut t = s;
@@ -84,90 +82,27 @@ fn bytes(
     while i < all.len() {
         let b = all[i];
         i += 1;
-        t = byte(t, b, run, commands, out);
+        t = step(t, Event::Byte(b), &[], run, commands, packets, out);
     }
     t
 }
 
-// A tick.
-fn tick(s: Replay, commands: &[u8; COMMANDS], out: &[u8]) -> Replay {
-    let d = s.device;
-    let a = link::tick(d, s.room);
-    noted(s, a, commands, out)
-}
-
 // Some ticks.
-fn ticks(s: Replay, n: u64, commands: &[u8; COMMANDS], out: &[u8]) -> Replay {
+fn ticks(
+    s: Replay,
+    n: u64,
+    run: &mut [u8; RUN_MAX],
+    commands: &mut [u8; COMMANDS],
+    packets: &mut [u8; PACKETS],
+    out: &mut [u8],
+) -> Replay {
     let mut t = s;
     let mut i = 0;
     while i < n {
         i += 1;
-        t = tick(t, commands, out);
+        t = step(t, Event::Tick, &[], run, commands, packets, out);
     }
     t
-}
-
-// A packet.
-fn packet(
-    s: Replay,
-    h: Heard,
-    bytes: &[u8],
-    commands: &[u8; COMMANDS],
-    packets: &mut [u8; PACKETS],
-    out: &[u8],
-) -> Replay {
-    let d = s.device;
-    let a = inbox::packet(d, h, bytes, packets, s.room);
-    noted(s, a, commands, out)
-}
-
-// A request.
-fn request(
-    s: Replay,
-    commands: &[u8; COMMANDS],
-    packets: &mut [u8; PACKETS],
-    out: &mut [u8],
-) -> Replay {
-    let d = s.device;
-    let a = inbox::request(d, packets, lent(out, s.room));
-    noted(s, a, commands, out)
-}
-
-// The disconnect.
-fn disconnect(s: Replay, commands: &[u8; COMMANDS], out: &[u8]) -> Replay {
-    let d = s.device;
-    let a = link::disconnect(d, s.room);
-    noted(s, a, commands, out)
-}
-
-// An outcome of the radio; any other item is none.
-fn outcome(s: Replay, item: Item, commands: &[u8; COMMANDS], out: &mut [u8]) -> Replay {
-    let d = s.device;
-    match item {
-        Item::Clear => {
-            let a = outcome::clear(d, s.room);
-            return noted(s, a, commands, out);
-        }
-        Item::Busy => {
-            let a = outcome::busy(d, commands, lent(out, s.room));
-            return noted(s, a, commands, out);
-        }
-        Item::Sent(airtime) => {
-            let a = outcome::sent(d, airtime, commands, lent(out, s.room));
-            return noted(s, a, commands, out);
-        }
-        Item::Configured => {
-            let a = outcome::configured(d, commands, lent(out, s.room));
-            return noted(s, a, commands, out);
-        }
-        Item::Fault => {
-            let a = outcome::fault(d, commands, lent(out, s.room));
-            return noted(s, a, commands, out);
-        }
-        _ => {
-            return s;
-        }
-    }
 }
 
 // So much output is lent from here on.
@@ -184,6 +119,59 @@ fn room(s: Replay, n: u64) -> Replay {
     }
 }
 
+// What a line comes to where it has one event at most.
+enum One {
+    Event(Event),
+    Nothing,
+}
+
+// The one event of a line, or nothing.
+fn single(item: Item) -> One {
+    match item {
+        Item::Clear => One::Event(Event::Clear),
+        Item::Busy => One::Event(Event::Busy),
+        Item::Sent(airtime) => One::Event(Event::Sent(airtime)),
+        Item::Configured => One::Event(Event::Configured),
+        Item::Fault => One::Event(Event::Fault),
+        Item::Packet {
+            rssi,
+            snr,
+            freq,
+            time,
+            crc,
+            len: _,
+        } => {
+            let h = Heard {
+                rssi,
+                snr,
+                freq,
+                time,
+                crc,
+            };
+            One::Event(Event::Packet(h))
+        }
+        Item::Request => One::Event(Event::Request),
+        Item::Disconnect => One::Event(Event::Disconnect),
+        _ => One::Nothing,
+    }
+}
+
+// How many bytes a line has.
+fn len_of(item: Item) -> usize {
+    match item {
+        Item::Bytes(n) => n,
+        Item::Packet {
+            rssi: _,
+            snr: _,
+            freq: _,
+            time: _,
+            crc: _,
+            len,
+        } => len,
+        _ => 0,
+    }
+}
+
 // Runs the events of a line; memory has its bytes.
 pub(crate) fn run(
     s: Replay,
@@ -194,41 +182,18 @@ pub(crate) fn run(
     packets: &mut [u8; PACKETS],
     out: &mut [u8],
 ) -> Replay {
-    match item {
-        Item::Bytes(n) => {
-            return bytes(s, buffer::part(memory, 0, n), run, commands, out);
-        }
-        Item::Ticks(n) => {
-            return ticks(s, n, commands, out);
-        }
-        Item::Packet {
-            rssi,
-            snr,
-            freq,
-            time,
-            crc,
-            len,
-        } => {
-            let h = Heard {
-                rssi,
-                snr,
-                freq,
-                time,
-                crc,
-            };
-            return packet(s, h, buffer::part(memory, 0, len), commands, packets, out);
-        }
-        Item::Request => {
-            return request(s, commands, packets, out);
-        }
-        Item::Disconnect => {
-            return disconnect(s, commands, out);
-        }
-        Item::Room(n) => {
-            return room(s, n);
-        }
-        _ => {
-            return outcome(s, item, commands, out);
-        }
+    if let Item::Room(n) = item {
+        return room(s, n);
     }
+    let all = buffer::part(memory, 0, len_of(item));
+    if let Item::Bytes(_) = item {
+        return bytes(s, all, run, commands, packets, out);
+    }
+    if let Item::Ticks(n) = item {
+        return ticks(s, n, run, commands, packets, out);
+    }
+    if let One::Event(e) = single(item) {
+        return step(s, e, all, run, commands, packets, out);
+    }
+    s
 }

@@ -8,10 +8,10 @@ use Rattle.replay.proofs.event.bytes.Statement.{statement}
 use Rattle.replay.proofs.event.bytes.Tie as tie
 
 abbrev Inv-loop : tie.InvT-loop
-Inv-loop all run₀ commands₀ out₀ t₀ i₀ run commands out t i = (i ≤ length all) × (length out ≡ length out₀)
+Inv-loop all run₀ commands₀ packets₀ out₀ t₀ i₀ t10 run commands packets out t i = (i ≤ length all) × (length out ≡ length out₀)
 
 abbrev μ-loop : tie.MeasureT-loop
-μ-loop all run₀ commands₀ out₀ t₀ i₀ run commands out t i = length all - i
+μ-loop all run₀ commands₀ packets₀ out₀ t₀ i₀ t10 run commands packets out t i = length all - i
 
 loop-holds : tie.Need-loop-holds Inv-loop μ-loop
 loop-holds c = search needs
@@ -22,8 +22,11 @@ shared-slice-read-b c = search needs
 add-i : tie.Need-add-i Inv-loop μ-loop
 add-i c = search needs
 
-byte-requires : tie.Need-byte-requires Inv-loop μ-loop
-byte-requires c κs = search needs
+slice-aggregate-step : tie.Need-slice-aggregate-step Inv-loop μ-loop
+slice-aggregate-step c = search needs
+
+step-requires : tie.Need-step-requires Inv-loop μ-loop
+step-requires c κs = search needs
 
 loop-less : tie.Need-loop-less Inv-loop μ-loop
 loop-less c = search needs
@@ -46,7 +49,8 @@ bytes-spec =
     loop-holds
     shared-slice-read-b
     add-i
-    byte-requires
+    slice-aggregate-step
+    step-requires
     loop-less
     loop-again
     same-length

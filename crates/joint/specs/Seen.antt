@@ -1,0 +1,38 @@
+-- What is seen of the device in code outside: its answers with the bytes that they name, and the tag of the TX with the radio.
+-- Assumes nothing.
+use Prim.Native.Nat.{ℕ}
+use mathlib.Core.List.{List, [], _∷_}
+use lib.ListN.{take, drop}
+use Rattle.modulation.specs.Modulations.{configOf, syncWord}
+use Rattle.device.specs.State.{Config}
+use Rattle.device.specs.State as S
+use Rattle.device.specs.Events.{Reply}
+use Rattle.control.specs.declared.Radio.{Radio}
+use Rattle.control.specs.declared.Radio.the-variants.{Free, Listening, OnAir, Orphan, Configuring}
+use Rattle.control.specs.declared.Order.{Order}
+use Rattle.control.specs.declared.Order.the-variants.{Nothing, Standby, Configure, Transmit, Receive}
+use Rattle.machine.specs.Machine.{Ran}
+
+-- an order with the bytes that it names: they stand in the memory of commands
+abbrev pub configIn : List ℕ → Config
+configIn p = record { modulation = configOf p; word = syncWord p }
+
+abbrev pub orderIn : List ℕ → Order → S.Order
+orderIn m Nothing = S.nothing
+orderIn m Standby = S.standby
+orderIn m (Configure at n ldro) = S.configure (configIn (take n (drop at m))) ldro
+orderIn m (Transmit at n listen) = S.transmit (take n (drop at m)) listen
+orderIn m Receive = S.receive
+
+-- the number, as many bytes of the output as were written, and the order
+unfoldable pub replyOf : Ran → Reply
+replyOf x =
+    record { number = x .answer .number; bytes = take (x .answer .written) (x .out); order = orderIn (x .next .commands) (x .answer .order) }
+
+-- the tag of the TX with the radio
+abbrev pub held : Radio → List ℕ
+held Free = []
+held (Listening t) = t ∷ []
+held (OnAir t) = t ∷ []
+held Orphan = []
+held Configuring = []

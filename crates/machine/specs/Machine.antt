@@ -1,0 +1,89 @@
+-- The device in code: its state and its three memories, and what a call of each event does with them, by the definitions that the contracts of the events cite.
+-- Assumes nothing.
+use Prim.Native.Nat.{ℕ}
+use mathlib.Core.Path.{_≡_}
+use mathlib.Core.List.{List}
+use lib.ListN.{length}
+use Rattle.buffer.specs.Lay.{lay}
+use Rattle.device.specs.State as S
+use Rattle.wire.specs.Wire.{sends}
+use Rattle.control.specs.declared.Device.{Device}
+use Rattle.control.specs.declared.Answer.{Answer}
+use Rattle.control.specs.Control.{Done, answerOf}
+use Rattle.outcome.specs.Outcomes.{clearDone, busyDone, sentDone, configuredDone, faultDone}
+use Rattle.inbox.specs.Packets.{packetOf, packetDone, requestDone}
+use Rattle.link.specs.Link.{byteDone, tickDone, disconnectDone}
+use Rattle.machine.specs.declared.Event.{Event}
+use Rattle.machine.specs.declared.Event.the-variants.{Byte, Tick, Clear, Busy, Sent, Configured, Fault, Packet, Request, Disconnect}
+
+-- the state, and the memories of the run, of commands and of packets
+pub record Machine : Type 0 where
+  pub device : Device
+  pub run : List ℕ
+  pub commands : List ℕ
+  pub packets : List ℕ
+
+abbrev pub machine : Device → List ℕ → List ℕ → List ℕ → Machine
+machine d run m p = record { device = d; run = run; commands = m; packets = p }
+
+-- a call: an event, and the output that is lent for its answer
+pub record Call : Type 0 where
+  pub event : S.Event
+  pub out : List ℕ
+
+-- an event as the code is given it; a packet's bytes come beside it
+abbrev pub eventOf : Event → List ℕ → S.Event
+eventOf (Byte b) bs = S.byte b
+eventOf Tick bs = S.tick
+eventOf Clear bs = S.clear
+eventOf Busy bs = S.busy
+eventOf (Sent airtime) bs = S.sent airtime
+eventOf Configured bs = S.configured
+eventOf Fault bs = S.fault
+eventOf (Packet h) bs = S.packet (packetOf h bs)
+eventOf Request bs = S.request
+eventOf Disconnect bs = S.disconnect
+
+-- what it leaves, and what it answers
+pub record Ran : Type 0 where
+  pub next : Machine
+  pub answer : Answer
+  pub out : List ℕ
+
+-- an event that writes to the output
+abbrev pub speaks : Done → List ℕ → List ℕ → List ℕ → List ℕ → Ran
+speaks x o run m p = record { next = machine (x .next) run m p; answer = answerOf 0 x; out = lay 0 (sends (x .said)) o }
+
+-- an event that is lent none
+abbrev pub keepsStill : Done → List ℕ → List ℕ → List ℕ → List ℕ → Ran
+keepsStill x o run m p = record { next = machine (x .next) run m p; answer = answerOf 0 x; out = o }
+
+-- the ten events
+abbrev pub runsOn : S.Event → List ℕ → Machine → Ran
+runsOn (S.byte b) o y =
+    let x = byteDone (length o) b (y .run) (y .commands) (y .device) in
+    speaks (x .done) o (x .run) (x .commands) (y .packets)
+runsOn S.tick o y = keepsStill (tickDone (length o) (y .device)) o (y .run) (y .commands) (y .packets)
+runsOn S.clear o y = keepsStill (clearDone (length o) (y .device)) o (y .run) (y .commands) (y .packets)
+runsOn S.busy o y = speaks (busyDone (length o) (y .commands) (y .device)) o (y .run) (y .commands) (y .packets)
+runsOn (S.sent airtime) o y = speaks (sentDone (length o) airtime (y .commands) (y .device)) o (y .run) (y .commands) (y .packets)
+runsOn S.configured o y = speaks (configuredDone (length o) (y .commands) (y .device)) o (y .run) (y .commands) (y .packets)
+runsOn S.fault o y = speaks (faultDone (length o) (y .commands) (y .device)) o (y .run) (y .commands) (y .packets)
+runsOn (S.packet p) o y =
+    let x = packetDone (length o) p (y .packets) (y .device) in
+    keepsStill (x .done) o (y .run) (y .commands) (x .packets)
+runsOn S.request o y =
+    let x = requestDone (length o) (y .packets) (y .device) in
+    speaks (x .done) o (y .run) (y .commands) (x .packets)
+runsOn S.disconnect o y = keepsStill (disconnectDone (length o) (y .device)) o (y .run) (y .commands) (y .packets)
+
+unfoldable pub runs : Machine → Call → Ran
+runs y c = runsOn (c .event) (c .out) y
+
+-- the contract: the answer, with the next state in it, the three memories and the output are those of x
+pub record Runs (x : Ran) (r : Answer) (run' m' p' o' : List ℕ) : Type 0 where
+  pub answers : r ≡ x .answer
+  pub run : run' ≡ x .next .run
+  pub commands : m' ≡ x .next .commands
+  pub packets : p' ≡ x .next .packets
+  pub out : o' ≡ x .out
