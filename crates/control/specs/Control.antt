@@ -9,8 +9,11 @@ use lib.Dec.{ltb}
 use lib.ListN.{length}
 use Rattle.numbers.specs.Numbers.{TAKEN, ROOM}
 use Rattle.buffer.specs.Lay.{lay}
+use Rattle.device.specs.State.{RadioOf}
+use Rattle.device.specs.State as S
 use Rattle.device.specs.Messages.{Frame}
 use Rattle.device.specs.Events.{roomMin}
+use Rattle.device.specs.Events as E
 use Rattle.wire.specs.Wire.{sends}
 use Rattle.control.specs.declared.Mode.{Mode}
 use Rattle.control.specs.declared.Mode.the-variants.{Unconfigured, Lora, Fsk}
@@ -69,19 +72,26 @@ unconfigured Unconfigured = true
 unconfigured Lora = false
 unconfigured Fsk = false
 
+-- The radio as the definition has it, and back: of a SET_CONFIG that it is being configured with nothing is kept here, since it stands in the memory of commands.
+abbrev pub radioOf : Radio → RadioOf (Unit {0})
+radioOf Free = S.free
+radioOf (Listening t) = S.listening t
+radioOf (OnAir t) = S.onAir t
+radioOf Orphan = S.orphan
+radioOf Configuring = S.configuring tt
+
+abbrev pub radioIs : RadioOf (Unit {0}) → Radio
+radioIs S.free = Free
+radioIs (S.listening t) = Listening t
+radioIs (S.onAir t) = OnAir t
+radioIs S.orphan = Orphan
+radioIs (S.configuring x) = Configuring
+
 abbrev pub free? : Radio → Bool
-free? Free = true
-free? (Listening t) = false
-free? (OnAir t) = false
-free? Orphan = false
-free? Configuring = false
+free? r = S.free? (radioOf r)
 
 abbrev pub runs? : Radio → Bool
-runs? Free = false
-runs? (Listening t) = false
-runs? (OnAir t) = false
-runs? Orphan = false
-runs? Configuring = true
+runs? r = S.runs? (radioOf r)
 
 -- a SET_CONFIG waits, or runs
 abbrev pub stalled : Air → Bool
@@ -129,11 +139,7 @@ idle false = Standby
 -- ---- a session's end
 
 abbrev pub ended : Radio → Radio
-ended Free = Free
-ended (Listening t) = Free
-ended (OnAir t) = Orphan
-ended Orphan = Orphan
-ended Configuring = Configuring
+ended r = radioIs (E.ended (radioOf r))
 
 unfoldable pub endSession : Device → Done
 endSession d =

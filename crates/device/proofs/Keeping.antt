@@ -89,15 +89,15 @@ same c s e o h k q d z =
 
 -- ---- a TX that starts is with the radio
 
-begun-held : (v : Bool) (t : ℕ) → held (begun v t) ≡ t ∷ []
+begun-held : (v : Bool) (t : ℕ) → held (begun {C = Setting} v t) ≡ t ∷ []
 begun-held true t = refl
 begun-held false t = refl
 
-pub begun-runs : (v : Bool) (t : ℕ) → runs? (begun v t) ≡ false
+pub begun-runs : (v : Bool) (t : ℕ) → runs? (begun {C = Setting} v t) ≡ false
 begun-runs true t = refl
 begun-runs false t = refl
 
-begun-open : (v : Bool) (t : ℕ) (ts : List ℕ) → length (held (begun v t) ++ ts) ≡ suc (length ts)
+begun-open : (v : Bool) (t : ℕ) (ts : List ℕ) → length (held (begun {C = Setting} v t) ++ ts) ≡ suc (length ts)
 begun-open true t ts = refl
 begun-open false t ts = refl
 

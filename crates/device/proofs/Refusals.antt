@@ -1,5 +1,5 @@
 -- Demand 1, and demand 2 for damaged frames: the three causes of refusal are exact, a refusal changes nothing, and damage draws ERR(EFRAME).
--- Idea: `Exact n s o` says of any answer o with the cause n what demand 1 says of the step's. A refusal has it by computing, and an answer whose number is
+-- Idea: `Told n s o` says of any answer o with the cause n what demand 1 says of the step's. A refusal has it by computing, and an answer whose number is
 -- TAKEN has it as well; the radio and the result of each test are arguments, so that every case computes.
 -- Assumes nothing.
 use Prim.Native.Nat.{ℕ, zero, suc, _<_}
@@ -19,20 +19,27 @@ use Rattle.device.specs.State.{Event, byte, tick, clear, busy, sent, con
 use Rattle.device.specs.Messages.{Message, err, EFRAME}
 use Rattle.device.specs.Frames.{Received, damaged, command, received, objection, settingOf, txOf}
 use Rattle.device.specs.Events.{Out, taken, refused, next, afterTx, onTx, onSet, onCommand, unless, onReceived, onRun, onByte, unlessStalled, onClear, onBusy, onSent, inForce, onConfigured, onFault, onPacket, onRequest, ticksMax, onTick, onDisconnect, onEvent, unlessRoom, step}
-use Rattle.device.specs.Demands.{listens?, onAir?, fits, byte?, Demand1, Demand2}
+use Rattle.device.specs.Demands.{listens?, onAir?, fits, byte?, Exact, Demand1, Demand2}
 
--- what demand 1 says, of an answer o with the cause n
-record Exact (n : ℕ) (s : State) (o : Out) : Type 0 where
-  number : o .number ≡ n
-  refusal : (m : ℕ) → n ≡ suc m → o ≡ refused (suc m) s
+-- ---- what demand 1 says of an answer
 
--- an answer with the number TAKEN
-by-taking : (s : State) (o : Out) → o .number ≡ TAKEN → Exact TAKEN s o
-by-taking s o e = record { number = e; refusal = λ m f. absurd (omega arith) }
+-- one with the number TAKEN, and a refusal: for any kind of answer
+module _ {A : Type 0} (number : A → ℕ) (refuse : ℕ → A) where
+  pub exact-taken : (x : A) → number x ≡ TAKEN → Exact number refuse TAKEN x
+  exact-taken x e = record { tells = e; stays = λ k f. absurd (omega arith) }
 
--- a refusal
-by-refusing : (n : ℕ) (s : State) → Exact n s (refused n s)
-by-refusing n s = record { number = refl; refusal = λ m f. ap (λ k. refused k s) f }
+  pub exact-refused : (n : ℕ) → number (refuse n) ≡ n → Exact number refuse n (refuse n)
+  exact-refused n e = record { tells = e; stays = λ k f. ap refuse f }
+
+-- of the device's
+abbrev Told : ℕ → State → Out → Type 0
+Told n s o = Exact (λ (x : Out). x .number) (λ k. refused k s) n o
+
+by-taking : (s : State) (o : Out) → o .number ≡ TAKEN → Told TAKEN s o
+by-taking s o e = exact-taken _ _ o e
+
+by-refusing : (n : ℕ) (s : State) → Told n s (refused n s)
+by-refusing n s = exact-refused _ _ n refl
 
 -- ---- the answers that are taken
 
@@ -112,47 +119,47 @@ takes-disconnect false s = refl
 
 -- ---- each event
 
-exact-byte : (v : Bool) (b : Board) (n : ℕ) (s : State) → Exact (cond v STALL TAKEN) s (unlessStalled v b n s)
+exact-byte : (v : Bool) (b : Board) (n : ℕ) (s : State) → Told (cond v STALL TAKEN) s (unlessStalled v b n s)
 exact-byte true b n s = by-refusing STALL s
 exact-byte false b n s = by-taking s _ (takes-byte b n s)
 
-exact-clear : (r : Radio) (s : State) → Exact (cond (not (listens? r)) PLACE TAKEN) s (onClear r s)
+exact-clear : (r : Radio) (s : State) → Told (cond (not (listens? r)) PLACE TAKEN) s (onClear r s)
 exact-clear free s = by-refusing PLACE s
 exact-clear (listening t) s = by-taking s _ refl
 exact-clear (onAir t) s = by-refusing PLACE s
 exact-clear orphan s = by-refusing PLACE s
 exact-clear (configuring c) s = by-refusing PLACE s
 
-exact-busy : (r : Radio) (s : State) → Exact (cond (not (listens? r)) PLACE TAKEN) s (onBusy r s)
+exact-busy : (r : Radio) (s : State) → Told (cond (not (listens? r)) PLACE TAKEN) s (onBusy r s)
 exact-busy free s = by-refusing PLACE s
 exact-busy (listening t) s = by-taking s _ (takes-after-tx _ s)
 exact-busy (onAir t) s = by-refusing PLACE s
 exact-busy orphan s = by-refusing PLACE s
 exact-busy (configuring c) s = by-refusing PLACE s
 
-exact-sent : (airtime : ℕ) (r : Radio) (s : State) → Exact (cond (not (onAir? r)) PLACE TAKEN) s (onSent airtime r s)
+exact-sent : (airtime : ℕ) (r : Radio) (s : State) → Told (cond (not (onAir? r)) PLACE TAKEN) s (onSent airtime r s)
 exact-sent airtime free s = by-refusing PLACE s
 exact-sent airtime (listening t) s = by-refusing PLACE s
 exact-sent airtime (onAir t) s = by-taking s _ (takes-after-tx _ s)
 exact-sent airtime orphan s = by-taking s _ (takes-after-tx _ s)
 exact-sent airtime (configuring c) s = by-refusing PLACE s
 
-exact-configured : (r : Radio) (s : State) → Exact (cond (not (runs? r)) PLACE TAKEN) s (onConfigured r s)
+exact-configured : (r : Radio) (s : State) → Told (cond (not (runs? r)) PLACE TAKEN) s (onConfigured r s)
 exact-configured free s = by-refusing PLACE s
 exact-configured (listening t) s = by-refusing PLACE s
 exact-configured (onAir t) s = by-refusing PLACE s
 exact-configured orphan s = by-refusing PLACE s
 exact-configured (configuring c) s = by-taking s _ (takes-in-force (s .link .session) c s)
 
-exact-packet : (v : Bool) (p : Packet) (s : State) → Exact (cond (not v) PLACE TAKEN) s (onPacket v p s)
+exact-packet : (v : Bool) (p : Packet) (s : State) → Told (cond (not v) PLACE TAKEN) s (onPacket v p s)
 exact-packet true p s = by-taking s _ refl
 exact-packet false p s = by-refusing PLACE s
 
 -- the causes but ROOM
 abbrev causeOf : Event → State → ℕ
-causeOf e s = cond (byte? e && stalled (s .air)) STALL (cond (not (fits e s)) PLACE TAKEN)
+causeOf e s = cond (byte? e && stalled (s .air)) STALL (cond (not (fits e (s .air .radio) (s .inbox .receiving))) PLACE TAKEN)
 
-exact-event : (b : Board) (e : Event) (s : State) → Exact (causeOf e s) s (onEvent b e s)
+exact-event : (b : Board) (e : Event) (s : State) → Told (causeOf e s) s (onEvent b e s)
 exact-event b (byte n) s = exact-byte (stalled (s .air)) b n s
 exact-event b tick s = by-taking s _ (takes-tick s)
 exact-event b clear s = exact-clear (s .air .radio) s
@@ -164,7 +171,7 @@ exact-event b (packet p) s = exact-packet (s .inbox .receiving && free? (s .air 
 exact-event b request s = by-taking s _ (takes-request (s .inbox .ring) s)
 exact-event b disconnect s = by-taking s _ (takes-disconnect (s .link .session) s)
 
-exact-room : (v : Bool) (b : Board) (e : Event) (s : State) → Exact (cond v ROOM (causeOf e s)) s (unlessRoom v b e s)
+exact-room : (v : Bool) (b : Board) (e : Event) (s : State) → Told (cond v ROOM (causeOf e s)) s (unlessRoom v b e s)
 exact-room true b e s = by-refusing ROOM s
 exact-room false b e s = exact-event b e s
 
@@ -173,9 +180,7 @@ exact-room false b e s = exact-event b e s
 -- 00, demand 1, for every state
 pub demand1 : (b : Board) (s : State) (i : Input) → Demand1 b s i
 unfolding step
-demand1 b s i =
-    let x = exact-room (ltb (i .room) 283) b (i .event) s in
-    record { number = x .number; refusal = x .refusal }
+demand1 b s i = exact-room (ltb (i .room) 283) b (i .event) s
 
 -- a run that isn't empty and is damaged
 on-damage : (b : Board) (run : List ℕ) (s : State)

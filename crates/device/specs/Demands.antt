@@ -25,43 +25,43 @@ use Rattle.message.specs.Reading.{receiveAnswer}
 use Rattle.message.specs.Writing.{writeAnswer, writeLeft}
 use Rattle.message.specs.declared.Kinds.the-variants as K
 use Rattle.board.specs.Board.{Board}
-use Rattle.device.specs.State.{Radio, free, listening, onAir, orphan, configuring, State, link, withLink, powerUp, held, tagsOf, free?, runs?, stalled}
+use Rattle.device.specs.State.{RadioOf, free, listening, onAir, orphan, configuring, State, link, withLink, powerUp, held, tagsOf, free?, runs?, stalled}
 use Rattle.device.specs.State.{Event, byte, tick, clear, busy, sent, configured, fault, packet, request, disconnect, Input, nothing}
 use Rattle.device.specs.Messages.{Message, payload, wire, wires, err, EFRAME, Frame, frame, seen, frames}
 use Rattle.device.specs.Frames.{damaged, received}
-use Rattle.device.specs.Events.{taken, refused, step, Reply, reply}
+use Rattle.device.specs.Events.{Out, taken, refused, step, Reply, reply}
 use Rattle.device.specs.Tally.{Place, reported, dropped, withRadio, waits, Entry, entry, open?, Tally, noTally, ifTaken, tallied, wrote, dones, reportedTags, newlyReported}
 use Rattle.device.specs.Lost.{Lost, noneLost, losing}
 use Rattle.device.specs.Ranges.{InputIn}
 
 -- ---- demand 1, for every state
 
-abbrev pub listens? : Radio → Bool
+abbrev pub listens? : {C : Type 0} → RadioOf C → Bool
 listens? free = false
 listens? (listening t) = true
 listens? (onAir t) = false
 listens? orphan = false
 listens? (configuring c) = false
 
-abbrev pub onAir? : Radio → Bool
+abbrev pub onAir? : {C : Type 0} → RadioOf C → Bool
 onAir? free = false
 onAir? (listening t) = false
 onAir? (onAir t) = true
 onAir? orphan = true
 onAir? (configuring c) = false
 
--- whether a radio outcome fits: 01 "What each event does"; the other events are none
-abbrev pub fits : Event → State → Bool
-fits (byte n) s = true
-fits tick s = true
-fits clear s = listens? (s .air .radio)
-fits busy s = listens? (s .air .radio)
-fits (sent airtime) s = onAir? (s .air .radio)
-fits configured s = runs? (s .air .radio)
-fits fault s = true
-fits (packet p) s = s .inbox .receiving && free? (s .air .radio)
-fits request s = true
-fits disconnect s = true
+-- Whether a radio outcome fits, by the radio and whether receiving is on: 01 "What each event does". The other events are none.
+abbrev pub fits : {C : Type 0} → Event → RadioOf C → Bool → Bool
+fits (byte n) r on = true
+fits tick r on = true
+fits clear r on = listens? r
+fits busy r on = listens? r
+fits (sent airtime) r on = onAir? r
+fits configured r on = runs? r
+fits fault r on = true
+fits (packet p) r on = on && free? r
+fits request r on = true
+fits disconnect r on = true
 
 abbrev pub byte? : Event → Bool
 byte? (byte n) = true
@@ -75,18 +75,26 @@ byte? (packet p) = false
 byte? request = false
 byte? disconnect = false
 
--- the three causes of refusal, the first that applies
-abbrev pub cause : State → Input → ℕ
-cause s i =
-    cond (ltb (i .room) 283) ROOM
-    (cond (byte? (i .event) && stalled (s .air)) STALL
-    (cond (not (fits (i .event) s)) PLACE
+-- the three causes of refusal, the first that applies: room is the length of the output that is lent, and wait says whether a SET_CONFIG waits or runs
+abbrev pub cause : {C : Type 0} → ℕ → Bool → RadioOf C → Bool → Event → ℕ
+cause room wait r on e =
+    cond (ltb room 283) ROOM
+    (cond (byte? e && wait) STALL
+    (cond (not (fits e r on)) PLACE
     TAKEN))
 
--- demand1: the number is the cause's, and a refusal writes nothing and changes nothing
-pub record Demand1 (b : Board) (s : State) (i : Input) : Type 0 where
-  pub number : step b s i .number ≡ cause s i
-  pub refusal : (n : ℕ) → cause s i ≡ suc n → step b s i ≡ refused (suc n) s
+abbrev pub causeIn : State → Input → ℕ
+causeIn s i = cause (i .room) (stalled (s .air)) (s .air .radio) (s .inbox .receiving) (i .event)
+
+-- Of an answer x, of any kind, with the cause n: its number is the cause's, and a refusal writes nothing and changes nothing. `number` reads the number off an
+-- answer, and `refuse` is the answer that does nothing else.
+pub record Exact {A : Type 0} (number : A → ℕ) (refuse : ℕ → A) (n : ℕ) (x : A) : Type 0 where
+  pub tells : number x ≡ n
+  pub stays : (k : ℕ) → n ≡ suc k → x ≡ refuse (suc k)
+
+-- demand1
+abbrev pub Demand1 : Board → State → Input → Type 0
+Demand1 b s i = Exact (λ (o : Out). o .number) (λ k. refused k s) (causeIn s i) (step b s i)
 
 -- ---- demand 2, damaged frames, for every state
 

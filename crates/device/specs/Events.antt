@@ -13,7 +13,7 @@ use Rattle.modulation.specs.declared.Modulation.the-variants as M
 use Rattle.rx.specs.Rx.{rxMax}
 use Rattle.board.specs.Board.{Board, ringMax}
 use Rattle.board.specs.Ldro.{ldro}
-use Rattle.device.specs.State.{Config, Setting, Tx, Radio, free, listening, onAir, orphan, configuring, Packet, Inbox, State, link, air, inbox, state, withConfig, withLink, withAir, withInbox, silent, deaf, tagsOf, free?, stalled}
+use Rattle.device.specs.State.{Config, Setting, Tx, RadioOf, Radio, free, listening, onAir, orphan, configuring, Packet, Inbox, State, link, air, inbox, state, withConfig, withLink, withAir, withInbox, silent, deaf, tagsOf, free?, stalled}
 use Rattle.device.specs.State.{Event, byte, tick, clear, busy, sent, configured, fault, packet, request, disconnect, Input, Order, nothing, standby, configure, transmit, receive}
 use Rattle.device.specs.Messages.{Message, ok, okInfo, okConfigured, err, txDone, cancelled, rx, wires, ERADIO, EFRAME, TRANSMITTED, CHANNEL-BUSY, CANCELLED}
 use Rattle.device.specs.Frames.{Received, damaged, command, received, objection, settingOf, txOf}
@@ -47,7 +47,7 @@ unfoldable pub listens : Option Config → ℕ → Bool
 listens none f = false
 listens (some c) f = listensIn (c .modulation) f
 
-abbrev pub begun : Bool → ℕ → Radio
+abbrev pub begun : {C : Type 0} → Bool → ℕ → RadioOf C
 begun true t = listening t
 begun false t = onAir t
 
@@ -208,7 +208,7 @@ onRequest (p ∷ ps) s = says (rx p (s .inbox .drops)) nothing (withInbox (inbox
 -- ---- tick, disconnect
 
 -- What a session's end leaves of the radio: a TX on air becomes an orphan, one that listens is given up, and configuring goes on.
-abbrev pub ended : Radio → Radio
+abbrev pub ended : {C : Type 0} → RadioOf C → RadioOf C
 ended free = free
 ended (listening t) = free
 ended (onAir t) = orphan

@@ -27,13 +27,16 @@ pub record Tx : Type 0 where
   pub packet : List ℕ
 
 -- What the radio does: nothing; it waits for a clear channel, to send a TX; it sends one; it sends one whose session has ended, the orphan; it is being configured.
--- Of a TX only the tag is still needed.
-pub data Radio : Type 0 where
-  free : Radio
-  listening : ℕ → Radio
-  onAir : ℕ → Radio
-  orphan : Radio
-  configuring : Setting → Radio
+-- Of a TX only the tag is still needed. C is what is kept here of the SET_CONFIG.
+pub data RadioOf (C : Type 0) : Type 0 where
+  free : RadioOf C
+  listening : ℕ → RadioOf C
+  onAir : ℕ → RadioOf C
+  orphan : RadioOf C
+  configuring : C → RadioOf C
+
+abbrev pub Radio : Type 0
+Radio = RadioOf Setting
 
 -- a received packet: RX's values without dropped and origin
 pub record Packet : Type 0 where
@@ -110,7 +113,7 @@ powerUp = state none silent (air free [] none) deaf
 -- ---- what is asked of it
 
 -- the tags of the open TX, in their order: the one with the radio, then those that wait
-abbrev pub held : Radio → List ℕ
+abbrev pub held : {C : Type 0} → RadioOf C → List ℕ
 held free = []
 held (listening t) = t ∷ []
 held (onAir t) = t ∷ []
@@ -124,7 +127,7 @@ tagsOf (x ∷ xs) = x .tag ∷ tagsOf xs
 abbrev pub open# : Air → ℕ
 open# a = length (held (a .radio) ++ tagsOf (a .waiting))
 
-abbrev pub free? : Radio → Bool
+abbrev pub free? : {C : Type 0} → RadioOf C → Bool
 free? free = true
 free? (listening t) = false
 free? (onAir t) = false
@@ -136,7 +139,7 @@ abbrev pub waits? : Option Setting → Bool
 waits? none = false
 waits? (some c) = true
 
-abbrev pub runs? : Radio → Bool
+abbrev pub runs? : {C : Type 0} → RadioOf C → Bool
 runs? free = false
 runs? (listening t) = false
 runs? (onAir t) = false

@@ -6,8 +6,10 @@ use mathlib.Core.Bool.{Bool, true, false, cond, _&&_}
 use mathlib.Core.List.{List, [], _∷_}
 use mathlib.Core.Option.{Option, none, some}
 use lib.Dec.{eqb}
+use lib.ListN.{length}
 use Rattle.kind.specs.Kinds.{GET-INFO, SET-CONFIG, TX, RX-START, RX-STOP}
 use Rattle.board.specs.Board.{sx1262, txMax}
+use Rattle.device.specs.State.{held}
 use Rattle.device.specs.Messages.{seen, ok, okInfo, err, txDone, EFRAME, CANCELLED}
 use Rattle.device.specs.Frames.{Received, damaged, command, objects}
 use Rattle.device.specs.Events.{changed}
@@ -17,7 +19,7 @@ use Rattle.control.specs.declared.Air.{Air}
 use Rattle.control.specs.declared.Device.{Device}
 use Rattle.control.specs.declared.Order.the-variants.{Nothing}
 use Rattle.control.specs.declared.Answer.{Answer}
-use Rattle.control.specs.Control.{air, inbox, withAir, withInbox, deaf, unconfigured, free?, Done, taken, says, idle, Gives}
+use Rattle.control.specs.Control.{radioOf, air, inbox, withAir, withInbox, deaf, unconfigured, free?, Done, taken, says, idle, Gives}
 use Rattle.queue.specs.Slots.{setting, kept}
 use Rattle.queue.specs.Queue.{start, begin}
 
@@ -32,15 +34,8 @@ ruled x m = record { done = x; commands = m }
 -- ---- TX: its OK, and then it starts if the radio is free, or waits in the slot after the last
 
 -- how many TX are open: with the radio, and waiting
-abbrev pub withRadio# : Radio → ℕ
-withRadio# Free = 0
-withRadio# (Listening t) = 1
-withRadio# (OnAir t) = 1
-withRadio# Orphan = 0
-withRadio# Configuring = 0
-
 abbrev pub open# : Air → ℕ
-open# a = withRadio# (a .radio) + a .waiting
+open# a = length (held (radioOf (a .radio))) + a .waiting
 
 abbrev pub slotFor : Air → ℕ
 slotFor a = (a .first + a .waiting) % txMax

@@ -15,16 +15,16 @@ use Rattle.device.proofs.Ranges.{sx1262-in}
 use Rattle.device.proofs.History as H
 use Rattle.device.proofs.Carrying.{InStep, given-in, demand2-wire-carried, demand3-carried, in-time-carried, drop-count-carried}
 use Rattle.control.specs.declared.Radio.{Radio}
+use Rattle.control.specs.Control.{radioOf}
 use Rattle.queue.specs.Queue.{waitingTags}
 use Rattle.machine.specs.Machine.{Machine, Call}
-use Rattle.joint.specs.Seen.{held}
 use Rattle.joint.specs.Joined.{Memories, inputOf, CallIn}
 use Rattle.joint.specs.Demands.{coded}
 use Rattle.joint.proofs.Stands.{RadioAs, as-free, as-listening, as-onAir, as-orphan, as-configuring}
 use Rattle.joint.proofs.Outcomes.{tags-wait}
 use Rattle.joint.proofs.Joint.{Meets, same-reply, meets-next, meets-first}
 
-same-held : {m : List ℕ} {r : Radio} {q : S.Radio} → RadioAs m r q → held r ≡ S.held q
+same-held : {m : List ℕ} {r : Radio} {q : S.Radio} → RadioAs m r q → S.held (radioOf r) ≡ S.held q
 same-held as-free = refl
 same-held as-listening = refl
 same-held as-onAir = refl

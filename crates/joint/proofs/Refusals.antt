@@ -20,11 +20,13 @@ use Rattle.board.specs.Board.{sx1262}
 use Rattle.device.specs.State.{Packet, Event, byte, tick, clear, busy, sent, configured, fault, packet, request, disconnect}
 use Rattle.device.specs.Messages.{seen, wire, err, EFRAME}
 use Rattle.device.specs.Frames.{Received, damaged, command, received, objects}
+use Rattle.device.specs.Demands.{listens?, onAir?, Exact}
+use Rattle.device.proofs.Refusals.{exact-taken, exact-refused}
 use Rattle.control.specs.declared.Radio.{Radio}
 use Rattle.control.specs.declared.Radio.the-variants.{Free, Listening, OnAir, Orphan, Configuring}
 use Rattle.control.specs.declared.Device.{Device}
 use Rattle.control.specs.declared.Order.the-variants.{Nothing}
-use Rattle.control.specs.Control.{link, withLink, deaf, withInbox, free?, runs?, stalled, unconfigured, Done, taken, refused, within, endSession}
+use Rattle.control.specs.Control.{link, withLink, radioOf, deaf, withInbox, free?, runs?, stalled, unconfigured, Done, taken, refused, within, endSession}
 use Rattle.wire.specs.Wire.{bytesOf, sends}
 use Rattle.queue.specs.Slots.{setting, kept}
 use Rattle.queue.specs.Queue.{start, begin, next, afterTx}
@@ -33,30 +35,18 @@ use Rattle.outcome.specs.Outcomes.{inForce, onClear, onBusy, onSent, onConfigur
 use Rattle.inbox.specs.Packets.{held, onPacket, onRequest, packetDone, requestDone}
 use Rattle.link.specs.Link.{onTick, onDisconnect, tickDone, disconnectDone, Fed, fed, onJoin, onRun, onZero, onByte, byteDone}
 use Rattle.machine.specs.Machine.{Machine, Call, Ran, speaks, keepsStill, runsOn, runs}
-use Rattle.joint.specs.Demands.{listens?, onAir?, cause, refusal, Demand1, Demand2}
+use Rattle.joint.specs.Demands.{causeIn, refusal, Demand1, Demand2}
 
 -- ---- what demand 1 says of an answer
-
--- an answer x of some kind A, with the cause n; `number` reads its number, and `refuse` is a refusal
-record Exact {A : Type 0} (number : A → ℕ) (refuse : ℕ → A) (n : ℕ) (x : A) : Type 0 where
-  tells : number x ≡ n
-  stays : (k : ℕ) → n ≡ suc k → x ≡ refuse (suc k)
-
-module _ {A : Type 0} (number : A → ℕ) (refuse : ℕ → A) where
-  by-taking : (x : A) → number x ≡ TAKEN → Exact number refuse TAKEN x
-  by-taking x e = record { tells = e; stays = λ k f. absurd (omega arith) }
-
-  by-refusing : (n : ℕ) → number (refuse n) ≡ n → Exact number refuse n (refuse n)
-  by-refusing n e = record { tells = e; stays = λ k f. ap refuse f }
 
 abbrev Told : Device → ℕ → Done → Type 0
 Told d n x = Exact (λ (z : Done). z .number) (λ k. refused k d) n x
 
 refuses : (d : Device) (n : ℕ) → Told d n (refused n d)
-refuses d n = by-refusing _ _ n refl
+refuses d n = exact-refused _ _ n refl
 
 takes : (d : Device) (x : Done) → x .number ≡ TAKEN → Told d TAKEN x
-takes d x e = by-taking _ _ x e
+takes d x e = exact-taken _ _ x e
 
 -- ---- the answers that are taken
 
@@ -162,21 +152,21 @@ takes-byte (suc n) run m d = takes-join (suc n) run m d
 
 -- ---- the outcomes
 
-exact-clear : (r : Radio) (d : Device) → Told d (cond (not (listens? r)) PLACE TAKEN) (onClear r d)
+exact-clear : (r : Radio) (d : Device) → Told d (cond (not (listens? (radioOf r))) PLACE TAKEN) (onClear r d)
 exact-clear Free d = refuses d PLACE
 exact-clear (Listening t) d = takes d _ refl
 exact-clear (OnAir t) d = refuses d PLACE
 exact-clear Orphan d = refuses d PLACE
 exact-clear Configuring d = refuses d PLACE
 
-exact-busy : (r : Radio) (m : List ℕ) (d : Device) → Told d (cond (not (listens? r)) PLACE TAKEN) (onBusy r m d)
+exact-busy : (r : Radio) (m : List ℕ) (d : Device) → Told d (cond (not (listens? (radioOf r))) PLACE TAKEN) (onBusy r m d)
 exact-busy Free m d = refuses d PLACE
 exact-busy (Listening t) m d = takes d _ (takes-after m d)
 exact-busy (OnAir t) m d = refuses d PLACE
 exact-busy Orphan m d = refuses d PLACE
 exact-busy Configuring m d = refuses d PLACE
 
-exact-sent : (airtime : ℕ) (r : Radio) (m : List ℕ) (d : Device) → Told d (cond (not (onAir? r)) PLACE TAKEN) (onSent airtime r m d)
+exact-sent : (airtime : ℕ) (r : Radio) (m : List ℕ) (d : Device) → Told d (cond (not (onAir? (radioOf r))) PLACE TAKEN) (onSent airtime r m d)
 exact-sent airtime Free m d = refuses d PLACE
 exact-sent airtime (Listening t) m d = refuses d PLACE
 exact-sent airtime (OnAir t) m d = takes d _ (takes-after m d)
@@ -233,22 +223,22 @@ module _ (y : Machine) (o : List ℕ) where
       (feeding (cond v (fed (refused ROOM d) (y .run) (y .commands)) (cond w (fed (refused STALL d) (y .run) (y .commands)) (onByte b (y .run) (y .commands) d))))
   exact-byte b true w = speaking ROOM (refused ROOM d) (refuses d ROOM)
   exact-byte b false true = speaking STALL (refused STALL d) (refuses d STALL)
-  exact-byte b false false = by-taking _ _ _ (takes-byte b (y .run) (y .commands) d)
+  exact-byte b false false = exact-taken _ _ _ (takes-byte b (y .run) (y .commands) d)
 
   -- a packet and a request
   exact-packet : (p : Packet) (v w : Bool) → Ends (cond v ROOM (cond (not w) PLACE TAKEN))
       (keepsStill (cond v (refused ROOM d) (onPacket w p (y .packets) d .done)) o (y .run) (y .commands) (cond v (y .packets) (onPacket w p (y .packets) d .packets)))
   exact-packet p true w = keeping ROOM (refused ROOM d) (refuses d ROOM)
-  exact-packet p false true = by-taking _ _ _ refl
+  exact-packet p false true = exact-taken _ _ _ refl
   exact-packet p false false = keeping PLACE (refused PLACE d) (refuses d PLACE)
 
   exact-request : (v : Bool) → Ends (cond v ROOM TAKEN)
       (speaks (cond v (refused ROOM d) (onRequest (d .inbox .held) (y .packets) d .done)) o (y .run) (y .commands)
       (cond v (y .packets) (onRequest (d .inbox .held) (y .packets) d .packets)))
   exact-request true = speaking ROOM (refused ROOM d) (refuses d ROOM)
-  exact-request false = by-taking _ _ _ (takes-request (d .inbox .held) (y .packets) d)
+  exact-request false = exact-taken _ _ _ (takes-request (d .inbox .held) (y .packets) d)
 
-  exact : (e : Event) → Ends (cause y (record { event = e; out = o })) (runsOn e o y)
+  exact : (e : Event) → Ends (causeIn y (record { event = e; out = o })) (runsOn e o y)
   unfolding within byteDone tickDone clearDone busyDone sentDone configuredDone faultDone packetDone requestDone disconnectDone
   exact (byte b) = exact-byte b short (stalled (d .air))
   exact tick = keeping _ _ (exact-room short d TAKEN _ (takes d _ (takes-tick d)))
@@ -266,7 +256,7 @@ module _ (y : Machine) (o : List ℕ) where
 -- 00, demand 1, for every machine
 pub demand1 : (y : Machine) (c : Call) → Demand1 y c
 unfolding runs
-demand1 y c = let x = exact y (c .out) (c .event) in record { number = x .tells; refuses = x .stays }
+demand1 y c = exact y (c .out) (c .event)
 
 -- 00, demand 2, damaged frames, for every machine
 module _ (y : Machine) (o : List ℕ) where

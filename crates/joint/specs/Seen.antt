@@ -1,14 +1,12 @@
--- What is seen of the device in code outside: its answers with the bytes that they name, and the tag of the TX with the radio.
+-- What is seen of the device in code outside: its answers, with the bytes that their orders name.
 -- Assumes nothing.
 use Prim.Native.Nat.{ℕ}
-use mathlib.Core.List.{List, [], _∷_}
+use mathlib.Core.List.{List}
 use lib.ListN.{take, drop}
 use Rattle.modulation.specs.Modulations.{configOf, syncWord}
 use Rattle.device.specs.State.{Config}
 use Rattle.device.specs.State as S
 use Rattle.device.specs.Events.{Reply}
-use Rattle.control.specs.declared.Radio.{Radio}
-use Rattle.control.specs.declared.Radio.the-variants.{Free, Listening, OnAir, Orphan, Configuring}
 use Rattle.control.specs.declared.Order.{Order}
 use Rattle.control.specs.declared.Order.the-variants.{Nothing, Standby, Configure, Transmit, Receive}
 use Rattle.machine.specs.Machine.{Ran}
@@ -28,11 +26,3 @@ orderIn m Receive = S.receive
 unfoldable pub replyOf : Ran → Reply
 replyOf x =
     record { number = x .answer .number; bytes = take (x .answer .written) (x .out); order = orderIn (x .next .commands) (x .answer .order) }
-
--- the tag of the TX with the radio
-abbrev pub held : Radio → List ℕ
-held Free = []
-held (Listening t) = t ∷ []
-held (OnAir t) = t ∷ []
-held Orphan = []
-held Configuring = []

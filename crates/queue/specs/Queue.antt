@@ -9,13 +9,14 @@ use Rattle.modulation.specs.Modulations.{LORA}
 use Rattle.board.specs.Board.{txMax}
 use Rattle.board.specs.Ldro.{slow}
 use Rattle.device.specs.Messages.{Frame, seen, cancelled}
+use Rattle.device.specs.Events as E
 use Rattle.control.specs.declared.Mode.{Mode}
 use Rattle.control.specs.declared.Mode.the-variants.{Unconfigured, Lora, Fsk}
 use Rattle.control.specs.declared.Radio.{Radio}
-use Rattle.control.specs.declared.Radio.the-variants.{Free, Listening, OnAir, Configuring}
+use Rattle.control.specs.declared.Radio.the-variants.{Free, Configuring}
 use Rattle.control.specs.declared.Device.{Device}
 use Rattle.control.specs.declared.Order.the-variants.{Configure, Transmit}
-use Rattle.control.specs.Control.{air, withAir, Done, taken, idle}
+use Rattle.control.specs.Control.{radioIs, air, withAir, Done, taken, idle}
 use Rattle.queue.specs.Slots.{slotSize, setting, lenAt, tagAt, headAt}
 
 -- ---- a TX starts
@@ -27,8 +28,7 @@ listens Lora f = eqb f 0
 listens Fsk f = false
 
 abbrev pub begun : Bool → ℕ → Radio
-begun true t = Listening t
-begun false t = OnAir t
+begun first t = radioIs (E.begun first t)
 
 -- the TX in slot k starts, and n wait in the slots after it
 unfoldable pub start : List ℕ → ℕ → ℕ → Device → Done
