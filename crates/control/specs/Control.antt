@@ -135,13 +135,3 @@ pub record Gives (x : Done) (o : List ℕ) (at : ℕ) (r : Answer) (o' : List �
 abbrev pub idle : Bool → Order
 idle true = Receive
 idle false = Standby
-
--- ---- a session's end
-
-abbrev pub ended : Radio → Radio
-ended r = radioIs (E.ended (radioOf r))
-
-unfoldable pub endSession : Device → Done
-endSession d =
-    taken (device Unconfigured silent (air (ended (d .air .radio)) false (d .air .first) 0) (deaf (d .inbox))) []
-    (cond (free? (ended (d .air .radio))) Standby Nothing)

@@ -1,6 +1,6 @@
 // The device's state and its answers, and the steps that all events share.
 ghost use mathlib.Core.Path.{_≡_};
-ghost use Rattle.control.specs.Control.{powerUp, answerOf, withLink, withAir, withInbox, withRadio, deaf, unconfigured, stalled, idle, ended, endSession};
+ghost use Rattle.control.specs.Control.{powerUp, withLink, withAir, withInbox, withRadio, deaf, stalled, idle};
 ghost use Rattle.control.specs.Control as C;
 use numbers::TAKEN;
 
@@ -191,17 +191,6 @@ pub fn with_radio(a: Air, radio: Radio) -> Air
     }
 }
 
-// Whether a device is UNCONFIGURED.
-pub fn is_unconfigured(m: Mode) -> bool
-    ensures { λ r. ⌜ r ≡ unconfigured m ⌝ }
-{
-    match m {
-        Mode::Unconfigured => true,
-        Mode::Lora => false,
-        Mode::Fsk => false,
-    }
-}
-
 // Whether the radio does nothing.
 pub fn is_free(r: Radio) -> bool
     ensures { λ b. ⌜ b ≡ C.free? r ⌝ }
@@ -256,48 +245,4 @@ pub fn deaf(i: Inbox) -> Inbox
         held: 0,
         drops: 0,
     }
-}
-
-// What a session's end leaves of the radio.
-fn ended(r: Radio) -> Radio
-    ensures { λ s. ⌜ s ≡ ended r ⌝ }
-{
-    match r {
-        Radio::Free => Radio::Free,
-        Radio::Listening(_) => Radio::Free,
-        Radio::OnAir(_) => Radio::Orphan,
-        Radio::Orphan => Radio::Orphan,
-        Radio::Configuring => Radio::Configuring,
-    }
-}
-
-// A session's end.
-pub fn end_session(d: Device) -> Answer
-    ensures { λ r. ⌜ r ≡ answerOf 0 (endSession d) ⌝ }
-{
-    let was = d.air;
-    let before = was.radio;
-    let radio = ended(before);
-    let inbox = deaf(d.inbox);
-    let link = Link {
-        session: false,
-        ticks: 0,
-        run: 0,
-    };
-    let air = Air {
-        radio,
-        pending: false,
-        first: was.first,
-        waiting: 0,
-    };
-    let e = Device {
-        mode: Mode::Unconfigured,
-        link,
-        air,
-        inbox,
-    };
-    if is_free(radio) {
-        return accept(e, 0, Order::Standby);
-    }
-    accept(e, 0, Order::Nothing)
 }

@@ -30,7 +30,7 @@ use Rattle.control.specs.Control.{unconfigured, Done, taken, answerOf, Gives}
 use Rattle.control.proofs.Laws.{silent}
 use Rattle.control.proofs.Radio.{the-type}
 use Rattle.queue.specs.Queue.{start, begin}
-use Rattle.dispatch.specs.Commands.{Ruled, ruled, open#, onTx, pends, sets, onSet, turned, onCommand, unless, judged, Rules}
+use Rattle.dispatch.specs.Commands.{Ruled, ruled, open#, onTx, pends, sets, onSet, turned, atOnce, onCommand, unless, judged, Rules}
 
 -- ---- what a command gives
 
@@ -141,25 +141,26 @@ module _ (kind : ℕ) (p : List ℕ) (d : Device) {bare : Bool} {n code : ℕ} (
         pub as-set : kind ≡ SET-CONFIG → judged kind t p m d ≡ onSet t p m d
         as-set e = obeyed ∙ simp (ne-eqb kind TX not-tx, eq-eqb kind SET-CONFIG e)
 
-        module _ (not-set : kind ≡ SET-CONFIG → ⊥) where
-          pub as-start : kind ≡ RX-START → judged kind t p m d ≡ ruled (turned true t d) m
-          as-start e = obeyed ∙ simp (ne-eqb kind TX not-tx, ne-eqb kind SET-CONFIG not-set, eq-eqb kind RX-START e)
+        pub as-plain : (kind ≡ SET-CONFIG → ⊥) → judged kind t p m d ≡ ruled (atOnce kind t d) m
+        as-plain e = obeyed ∙ simp (ne-eqb kind TX not-tx, ne-eqb kind SET-CONFIG e)
 
-          module _ (not-start : kind ≡ RX-START → ⊥) where
-            pub as-stop : kind ≡ RX-STOP → judged kind t p m d ≡ ruled (turned false t d) m
-            as-stop e =
-                obeyed
-                ∙ simp (ne-eqb kind TX not-tx, ne-eqb kind SET-CONFIG not-set, ne-eqb kind RX-START not-start, eq-eqb kind RX-STOP e)
+-- ---- what is answered at once
 
-            module _ (not-stop : kind ≡ RX-STOP → ⊥) where
-              pub as-info : kind ≡ GET-INFO → judged kind t p m d ≡ ruled (taken d (seen (okInfo sx1262 t) ∷ []) Nothing) m
-              as-info e =
-                  obeyed
-                  ∙ simp
-                  (ne-eqb kind TX not-tx, ne-eqb kind SET-CONFIG not-set, ne-eqb kind RX-START not-start, ne-eqb kind RX-STOP not-stop, eq-eqb kind GET-INFO e)
+module _ (kind t : ℕ) (d : Device) where
+  pub as-start : kind ≡ RX-START → atOnce kind t d ≡ turned true t d
+  unfolding atOnce
+  as-start e = simp (eq-eqb kind RX-START e)
 
-              pub as-ping : (kind ≡ GET-INFO → ⊥) → judged kind t p m d ≡ ruled (taken d (seen (ok t) ∷ []) Nothing) m
-              as-ping e =
-                  obeyed
-                  ∙ simp
-                  (ne-eqb kind TX not-tx, ne-eqb kind SET-CONFIG not-set, ne-eqb kind RX-START not-start, ne-eqb kind RX-STOP not-stop, ne-eqb kind GET-INFO e)
+  module _ (not-start : kind ≡ RX-START → ⊥) where
+    pub as-stop : kind ≡ RX-STOP → atOnce kind t d ≡ turned false t d
+    unfolding atOnce
+    as-stop e = simp (ne-eqb kind RX-START not-start, eq-eqb kind RX-STOP e)
+
+    module _ (not-stop : kind ≡ RX-STOP → ⊥) where
+      pub as-info : kind ≡ GET-INFO → atOnce kind t d ≡ taken d (seen (okInfo sx1262 t) ∷ []) Nothing
+      unfolding atOnce
+      as-info e = simp (ne-eqb kind RX-START not-start, ne-eqb kind RX-STOP not-stop, eq-eqb kind GET-INFO e)
+
+      pub as-ping : (kind ≡ GET-INFO → ⊥) → atOnce kind t d ≡ taken d (seen (ok t) ∷ []) Nothing
+      unfolding atOnce
+      as-ping e = simp (ne-eqb kind RX-START not-start, ne-eqb kind RX-STOP not-stop, ne-eqb kind GET-INFO e)

@@ -20,7 +20,7 @@ use Rattle.control.specs.declared.Device.{Device}
 use Rattle.control.specs.declared.Order.the-variants.{Nothing}
 use Rattle.control.specs.declared.Answer.{Answer}
 use Rattle.control.specs.Control.{radioOf, air, inbox, withAir, withInbox, deaf, unconfigured, free?, Done, taken, says, idle, Gives}
-use Rattle.queue.specs.Slots.{setting, kept}
+use Rattle.slot.specs.Slots.{setting, kept}
 use Rattle.queue.specs.Queue.{start, begin}
 
 -- what a command gives, and the memory of commands that it leaves
@@ -72,16 +72,22 @@ turned on t d =
     taken (withInbox d (inbox on (d .inbox .first) (d .inbox .held) (d .inbox .drops))) (seen (ok t) ∷ [])
     (cond (free? (d .air .radio) && changed on (d .inbox .receiving)) (idle on) Nothing)
 
+-- ---- what is answered at once: RX_START, RX_STOP, GET_INFO, PING
+
+unfoldable pub atOnce : ℕ → ℕ → Device → Done
+atOnce kind t d =
+    cond (eqb kind RX-START) (turned true t d)
+    (cond (eqb kind RX-STOP) (turned false t d)
+    (cond (eqb kind GET-INFO) (taken d (seen (okInfo sx1262 t) ∷ []) Nothing)
+    (taken d (seen (ok t) ∷ []) Nothing)))
+
 -- ---- any command
 
 abbrev pub onCommand : ℕ → ℕ → List ℕ → List ℕ → Device → Ruled
 onCommand kind t p m d =
     cond (eqb kind TX) (onTx t p m d)
     (cond (eqb kind SET-CONFIG) (onSet t p m d)
-    (cond (eqb kind RX-START) (ruled (turned true t d) m)
-    (cond (eqb kind RX-STOP) (ruled (turned false t d) m)
-    (cond (eqb kind GET-INFO) (ruled (taken d (seen (okInfo sx1262 t) ∷ []) Nothing) m)
-    (ruled (taken d (seen (ok t) ∷ []) Nothing) m)))))
+    (ruled (atOnce kind t d) m))
 
 -- an objection draws an ERR, and does nothing else
 abbrev pub unless : Option ℕ → ℕ → ℕ → List ℕ → List ℕ → Device → Ruled

@@ -4,12 +4,13 @@ ghost use mathlib.Core.Path.{_≡_};
 ghost use Prim.Native.Nat.{_≤_, _<_};
 ghost use lib.ListN.{length};
 ghost use Rattle.device.specs.Events as E;
-ghost use Rattle.control.specs.Control.{Gives};
-ghost use Rattle.dispatch.specs.Commands.{Rules, open#, onTx, onSet, turned, judged};
+ghost use Rattle.control.specs.Control.{Gives, unconfigured};
+ghost use Rattle.dispatch.specs.Commands.{Rules, open#, onTx, onSet, turned, atOnce, judged};
 use control::Air;
 use control::Answer;
 use control::Device;
 use control::Inbox;
+use control::Mode;
 use control::Order;
 use control::Radio;
 use kind::GET_INFO;
@@ -19,9 +20,9 @@ use kind::RX_STOP;
 use kind::SET_CONFIG;
 use kind::TX;
 use queue::CANCELLED;
-use queue::COMMANDS;
-use queue::SETTING;
 use queue::TX_MAX;
+use slot::COMMANDS;
+use slot::SETTING;
 
 // A frame with a type, a tag and a payload: what draws an ERR does nothing else. A helper of the
 // events: they show that there is room.
@@ -38,7 +39,7 @@ pub fn dispatch(
 {
     let mode = d.mode;
     let air = d.air;
-    let bare = control::is_unconfigured(mode);
+    let bare = is_unconfigured(mode);
     let count = count_open(air);
     let code = objection::objection(bare, count, kind, payload);
     if code != objection::NONE {
@@ -51,6 +52,14 @@ pub fn dispatch(
     if kind == SET_CONFIG {
         return set_config(d, tag, payload, commands, out);
     }
+    at_once(d, kind, tag, out)
+}
+
+// A command that is answered at once.
+fn at_once(d: Device, kind: u8, tag: u16, out: &mut [u8]) -> Answer
+    requires { ⌜ 283 ≤ length (now out) ⌝ }
+    ensures { λ r. ⌜ Gives (atOnce kind tag d) (now (out .entry)) 0 r (now (out .exit)) ⌝ }
+{
     if kind == RX_START {
         return turn(d, true, tag, out);
     }
@@ -64,6 +73,17 @@ pub fn dispatch(
     }
     let w = wire::say_ok(tag, out, 0);
     control::accept(d, w, Order::Nothing)
+}
+
+// Whether a device is UNCONFIGURED.
+fn is_unconfigured(m: Mode) -> bool
+    ensures { λ r. ⌜ r ≡ unconfigured m ⌝ }
+{
+    match m {
+        Mode::Unconfigured => true,
+        Mode::Lora => false,
+        Mode::Fsk => false,
+    }
 }
 
 // How many TX are open: with the radio, and waiting.
@@ -92,7 +112,7 @@ fn tx(d: Device, tag: u16, payload: &[u8], commands: &mut [u8; COMMANDS], out: &
     let radio = was.radio;
     let waiting = was.waiting;
     let slot = (was.first as usize + waiting as usize) % TX_MAX;
-    queue::keep(slot, tag, payload, commands);
+    slot::keep(slot, tag, payload, commands);
     let w = wire::say_ok(tag, out, 0);
     if control::is_free(radio) {
         return queue::start(d, slot, waiting, commands, w);
@@ -120,7 +140,7 @@ fn set_config(
     requires { ⌜ (1 ≤ length (now payload)) × (length (now payload) ≤ 256) ⌝ }
     ensures { λ r. ⌜ Rules (onSet tag (now (payload .entry)) (now (commands .entry)) d) (now (out .entry)) r (now (out .exit)) (now (commands .exit)) ⌝ }
 {
-    queue::keep(SETTING, tag, payload, commands);
+    slot::keep(SETTING, tag, payload, commands);
     let held = d.inbox;
     let emptied = control::deaf(held);
     let e = control::with_inbox(d, emptied);

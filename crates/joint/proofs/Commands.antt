@@ -32,11 +32,11 @@ use Rattle.control.specs.declared.Radio.{Radio}
 use Rattle.control.specs.declared.Air.{Air}
 use Rattle.control.specs.declared.Device.{Device}
 use Rattle.control.specs.declared.Order.the-variants.{Nothing}
-use Rattle.control.specs.Control.{free?, runs?, stalled, deaf, withInbox, unconfigured, says, taken, idle}
-use Rattle.queue.specs.Slots.{setting, slotBytes, kept}
+use Rattle.control.specs.Control.{free?, runs?, stalled, deaf, withInbox, unconfigured, Done, says, taken, idle}
+use Rattle.slot.specs.Slots.{setting, slotBytes, kept}
 use Rattle.queue.specs.Queue.{start}
 use Rattle.objection.proofs.Laws.{none-set, none-tx, TxIn}
-use Rattle.dispatch.specs.Commands.{Ruled, ruled, open#, slotFor, waitsToo, onTx, pends, sets, onSet, turned, onCommand, unless, judged}
+use Rattle.dispatch.specs.Commands.{Ruled, ruled, open#, slotFor, waitsToo, onTx, pends, sets, onSet, turned, atOnce, onCommand, unless, judged}
 use Rattle.joint.specs.Seen.{orderIn}
 use Rattle.joint.proofs.Slots.{laid, wheel16, ring-push, ring-apart}
 use Rattle.joint.proofs.Stands.{SetAt, RadioAs, as-free, as-listening, as-onAir, as-orphan, as-configuring, PendingAs, as-none, as-some, txSlot, TxAt, Queue, AirAs, Stands, Agrees, quietly, empty-inbox, with-air, with-inbox, same-bare}
@@ -274,35 +274,38 @@ module _ {d : Device} {run m ps : List ℕ} {s : State} (h : Stands d run m ps s
     few-waiting : open# (d .air) < 16 → length (s .air .waiting) < 16
     few-waiting l = omega (arith, same-open (h .air), length-append (held (s .air .radio)) (tagsOf (s .air .waiting)), length-tags (s .air .waiting))
 
+    -- what is answered at once
+    at-once : (rx-start rx-stop get-info : Bool)
+        → Agrees (cond rx-start (turned true t d)
+        (cond rx-stop (turned false t d)
+        (cond get-info (taken d (seen (okInfo sx1262 t) ∷ []) Nothing)
+        (taken d (seen (ok t) ∷ []) Nothing)))) run m ps
+        (cond rx-start (E.turned true t s)
+        (cond rx-stop (E.turned false t s)
+        (cond get-info (E.says (okInfo sx1262 t) S.nothing s)
+        (E.says (ok t) S.nothing s))))
+    at-once true v w = turns true t
+    at-once false true w = turns false t
+    at-once false false true = answers (okInfo sx1262 t)
+    at-once false false false = answers (ok t)
+
     obeys : objects sx1262 (unconfigured (d .mode)) (open# (d .air)) kind p ≡ none → Ruling (onCommand kind t p m d) (E.onCommand sx1262 kind t p s)
-    obeys e = go (eqb kind TX) refl (eqb kind SET-CONFIG) refl (eqb kind RX-START) (eqb kind RX-STOP) (eqb kind GET-INFO)
+    unfolding atOnce
+    obeys e = go (eqb kind TX) refl (eqb kind SET-CONFIG) refl (at-once (eqb kind RX-START) (eqb kind RX-STOP) (eqb kind GET-INFO))
       where
-        go : (tx : Bool) → eqb kind TX ≡ tx → (set : Bool) → eqb kind SET-CONFIG ≡ set → (rx-start rx-stop get-info : Bool)
-            → Ruling (cond tx (onTx t p m d)
-            (cond set (onSet t p m d)
-            (cond rx-start (ruled (turned true t d) m)
-            (cond rx-stop (ruled (turned false t d) m)
-            (cond get-info (ruled (taken d (seen (okInfo sx1262 t) ∷ []) Nothing) m)
-            (ruled (taken d (seen (ok t) ∷ []) Nothing) m))))))
-            (cond tx (E.onTx (txOf t p) (s .air .radio) s)
-            (cond set (E.onSet (settingOf t p) (s .air .radio) (S.withInbox S.deaf s))
-            (cond rx-start (E.turned true t s)
-            (cond rx-stop (E.turned false t s)
-            (cond get-info (E.says (okInfo sx1262 t) S.nothing s)
-            (E.says (ok t) S.nothing s))))))
-        go true a set b u v w =
+        go : (tx : Bool) → eqb kind TX ≡ tx → (set : Bool) → eqb kind SET-CONFIG ≡ set → {x : Done} {o : E.Out} → Agrees x run m ps o
+            → Ruling (cond tx (onTx t p m d) (cond set (onSet t p m d) (ruled x m)))
+            (cond tx (E.onTx (txOf t p) (s .air .radio) s) (cond set (E.onSet (settingOf t p) (s .air .radio) (S.withInbox S.deaf s)) o))
+        go true a set b y =
             let k : TxIn sx1262 (unconfigured (d .mode)) (open# (d .air)) p =
             none-tx sx1262 (unconfigured (d .mode)) (open# (d .air)) p
             (subst (λ (i : ℕ). objects sx1262 (unconfigured (d .mode)) (open# (d .air)) i p ≡ none) (eqb-true kind TX a) e) in
             takes t p (tag .1) (k .least) (k .most) (few-waiting (k .room)) q
-        go false a true b u v w =
+        go false a true b y =
             set-up t p (tag .1) bytes
             (none-set sx1262 (unconfigured (d .mode)) (open# (d .air)) p
             (subst (λ (i : ℕ). objects sx1262 (unconfigured (d .mode)) (open# (d .air)) i p ≡ none) (eqb-true kind SET-CONFIG b) e)) g
-        go false a false b true v w = turns true t
-        go false a false b false true w = turns false t
-        go false a false b false false true = answers (okInfo sx1262 t)
-        go false a false b false false false = answers (ok t)
+        go false a false b y = y
 
     same-objection : objects sx1262 (unconfigured (d .mode)) (open# (d .air)) kind p ≡ objection sx1262 s kind p
     unfolding objection

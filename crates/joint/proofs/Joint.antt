@@ -29,10 +29,12 @@ use Rattle.control.specs.declared.Radio.{Radio}
 use Rattle.control.specs.declared.Radio.the-variants.{Free, Listening, OnAir, Orphan, Configuring}
 use Rattle.control.specs.declared.Device.{Device}
 use Rattle.control.specs.declared.Order.the-variants.{Nothing}
-use Rattle.control.specs.Control.{link, withLink, free?, stalled, Done, refused, taken, within, endSession}
-use Rattle.outcome.specs.Outcomes.{onClear, onBusy, onSent, onConfigured, onFault, clearDone, busyDone, sentDone, configuredDone, faultDone}
+use Rattle.control.specs.Control.{link, withLink, free?, stalled, Done, refused, taken, within}
+use Rattle.outcome.specs.Outcomes.{onClear, onBusy, onSent, onFault, clearDone, busyDone, sentDone, faultDone}
 use Rattle.inbox.specs.Packets.{onPacket, onRequest, packetDone, requestDone}
-use Rattle.link.specs.Link.{onTick, onDisconnect, tickDone, disconnectDone, Fed, fed, onByte, byteDone}
+use Rattle.session.specs.Session.{endSession, onTick, onDisconnect, tickDone, disconnectDone}
+use Rattle.configured.specs.Configured.{onConfigured, configuredDone}
+use Rattle.link.specs.Link.{Fed, fed, onByte, byteDone}
 use Rattle.machine.specs.Machine.{Machine, Call, Ran, speaks, keepsStill, runsOn, runs}
 use Rattle.joint.specs.Seen.{replyOf}
 use Rattle.joint.specs.Joined.{Memories, started, inputOf, CallIn, answers, replies, Joined}

@@ -19,8 +19,9 @@ use Rattle.control.specs.declared.Radio.{Radio}
 use Rattle.control.specs.declared.Air.{Air}
 use Rattle.control.specs.declared.Device.{Device}
 use Rattle.control.specs.declared.Order.the-variants.{Nothing, Standby}
-use Rattle.control.specs.Control.{link, withLink, free?, runs?, stalled, Done, taken, ended, endSession}
-use Rattle.link.specs.Link.{onTick, onDisconnect, fed, joined, onJoin}
+use Rattle.control.specs.Control.{link, withLink, free?, runs?, stalled, Done, taken}
+use Rattle.session.specs.Session.{ended, endSession, onTick, onDisconnect}
+use Rattle.link.specs.Link.{fed, joined, onJoin}
 use Rattle.joint.specs.Seen.{orderIn}
 use Rattle.joint.proofs.Stands.{RunAs, as-run, as-long, RadioAs, as-free, as-listening, as-onAir, as-orphan, as-configuring, PendingAs, as-none, as-some, AirAs, Stands, Agrees, quietly, empty-link, empty-air, empty-inbox, with-link}
 

@@ -20,8 +20,9 @@ use Rattle.control.specs.declared.Radio.{Radio}
 use Rattle.control.specs.declared.Device.{Device}
 use Rattle.control.specs.declared.Air.{Air}
 use Rattle.control.specs.Control.{withRadio, Done, says, idle}
-use Rattle.outcome.specs.Outcomes.{noted, lost, inForce, onClear, onBusy, onSent, onConfigured, onFault}
-use Rattle.queue.specs.Slots.{headAt}
+use Rattle.outcome.specs.Outcomes.{noted, lost, onClear, onBusy, onSent, onFault}
+use Rattle.slot.specs.Slots.{headAt}
+use Rattle.configured.specs.Configured.{inForce, onConfigured}
 use Rattle.queue.specs.Queue.{listens, begun, start, waitingTags, begin, next, afterTx}
 use Rattle.joint.specs.Seen.{orderIn}
 use Rattle.joint.proofs.Stands.{SetAt, RadioAs, as-free, as-listening, as-onAir, as-orphan, as-configuring, PendingAs, as-none, as-some, TxAt, Queue, AirAs, Stands, Agrees, quietly, refuses, empty-air, with-air, same-listens, tx-tag, tx-flags, tx-packet, set-tag, set-mode, set-order, set-ok}

@@ -26,14 +26,16 @@ use Rattle.control.specs.declared.Radio.{Radio}
 use Rattle.control.specs.declared.Radio.the-variants.{Free, Listening, OnAir, Orphan, Configuring}
 use Rattle.control.specs.declared.Device.{Device}
 use Rattle.control.specs.declared.Order.the-variants.{Nothing}
-use Rattle.control.specs.Control.{link, withLink, radioOf, deaf, withInbox, free?, runs?, stalled, unconfigured, Done, taken, refused, within, endSession}
+use Rattle.control.specs.Control.{link, withLink, radioOf, deaf, withInbox, free?, runs?, stalled, unconfigured, Done, taken, refused, within}
 use Rattle.wire.specs.Wire.{bytesOf, sends}
-use Rattle.queue.specs.Slots.{setting, kept}
+use Rattle.slot.specs.Slots.{setting, kept}
 use Rattle.queue.specs.Queue.{start, begin, next, afterTx}
-use Rattle.dispatch.specs.Commands.{Ruled, ruled, open#, slotFor, waitsToo, onTx, sets, onSet, turned, onCommand, unless, judged, onReceived}
-use Rattle.outcome.specs.Outcomes.{inForce, onClear, onBusy, onSent, onConfigured, onFault, clearDone, busyDone, sentDone, configuredDone, faultDone}
+use Rattle.dispatch.specs.Commands.{Ruled, ruled, open#, slotFor, waitsToo, onTx, sets, onSet, turned, atOnce, onCommand, unless, judged, onReceived}
+use Rattle.outcome.specs.Outcomes.{onClear, onBusy, onSent, onFault, clearDone, busyDone, sentDone, faultDone}
 use Rattle.inbox.specs.Packets.{held, onPacket, onRequest, packetDone, requestDone}
-use Rattle.link.specs.Link.{onTick, onDisconnect, tickDone, disconnectDone, Fed, fed, onJoin, onRun, onZero, onByte, byteDone}
+use Rattle.session.specs.Session.{endSession, onTick, onDisconnect, tickDone, disconnectDone}
+use Rattle.configured.specs.Configured.{inForce, onConfigured, configuredDone}
+use Rattle.link.specs.Link.{Fed, fed, onJoin, onRun, onZero, onByte, byteDone}
 use Rattle.machine.specs.Machine.{Machine, Call, Ran, speaks, keepsStill, runsOn, runs}
 use Rattle.joint.specs.Demands.{causeIn, refusal, Demand1, Demand2}
 
@@ -114,13 +116,17 @@ takes-turned : (on : Bool) (t : ℕ) (d : Device) → turned on t d .number ≡ 
 unfolding turned
 takes-turned on t d = refl
 
+takes-plain : (kind t : ℕ) (d : Device) → atOnce kind t d .number ≡ TAKEN
+unfolding atOnce
+takes-plain kind t d =
+    either (eqb kind RX-START) _ _ (takes-turned true t d)
+    (either (eqb kind RX-STOP) _ _ (takes-turned false t d)
+    (either (eqb kind GET-INFO) _ _ refl refl))
+
 takes-command : (kind t : ℕ) (p m : List ℕ) (d : Device) → onCommand kind t p m d .done .number ≡ TAKEN
 takes-command kind t p m d =
     either-ruled (eqb kind TX) _ _ (takes-tx t p m d)
-    (either-ruled (eqb kind SET-CONFIG) _ _ (takes-set t p m d)
-    (either-ruled (eqb kind RX-START) _ _ (takes-turned true t d)
-    (either-ruled (eqb kind RX-STOP) _ _ (takes-turned false t d)
-    (either-ruled (eqb kind GET-INFO) _ _ refl refl))))
+    (either-ruled (eqb kind SET-CONFIG) _ _ (takes-set t p m d) (takes-plain kind t d))
 
 takes-unless : (o : Option ℕ) (kind t : ℕ) (p m : List ℕ) (d : Device) → unless o kind t p m d .done .number ≡ TAKEN
 takes-unless (some code) kind t p m d = refl

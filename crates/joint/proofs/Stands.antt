@@ -37,10 +37,10 @@ use Rattle.control.specs.declared.Inbox.{Inbox}
 use Rattle.control.specs.declared.Device.{Device}
 use Rattle.control.specs.declared.Order.the-variants.{Nothing, Configure}
 use Rattle.control.specs.Control.{link, air, inbox, withLink, withAir, withInbox, unconfigured, Done, taken, refused}
-use Rattle.queue.specs.Slots.{slotSize, setting, slotBytes, lenAt, tagAt, headAt, payloadAt}
+use Rattle.slot.specs.Slots.{slotSize, setting, slotBytes, lenAt, tagAt, headAt, payloadAt}
 use Rattle.queue.specs.Queue.{listens, ldroAt}
-use Rattle.outcome.specs.Outcomes.{modeOf, okConfigured}
 use Rattle.inbox.specs.Packets as P
+use Rattle.configured.specs.Configured.{modeOf, okConfigured}
 use Rattle.joint.specs.Seen.{configIn, orderIn}
 use Rattle.joint.proofs.Slots.{At, Slot, Ring}
 

@@ -12,7 +12,7 @@ use Rattle.device.specs.State as S
 use Rattle.device.specs.Events.{step, Reply, reply}
 use Rattle.device.specs.Ranges.{InputIn}
 use Rattle.control.specs.Control.{powerUp}
-use Rattle.queue.specs.Slots.{commandsSize}
+use Rattle.slot.specs.Slots.{commandsSize}
 use Rattle.inbox.specs.Packets.{packetsSize}
 use Rattle.machine.specs.Machine.{Machine, machine, Call, runs}
 use Rattle.joint.specs.Seen.{replyOf}

@@ -1,10 +1,10 @@
--- The host's side: byte, tick and disconnect. 01 "A run of bytes becomes a frame" and "What each event does".
+-- A byte from the host: 01 "A run of bytes becomes a frame".
 -- Assumes nothing.
 use Prim.Native.Nat.{ℕ, zero, suc, _+_}
 use mathlib.Core.Path.{_≡_}
-use mathlib.Core.Bool.{Bool, true, false, cond, not, _&&_}
+use mathlib.Core.Bool.{true, cond}
 use mathlib.Core.List.{List, []}
-use lib.Dec.{leb, ltb}
+use lib.Dec.{ltb}
 use lib.ListN.{length, take, set}
 use Rattle.numbers.specs.Numbers.{ROOM, STALL}
 use Rattle.cobs.specs.Answers.{encodedMax}
@@ -13,30 +13,8 @@ use Rattle.device.specs.Events.{roomMin}
 use Rattle.control.specs.declared.Device.{Device}
 use Rattle.control.specs.declared.Order.the-variants.{Nothing}
 use Rattle.control.specs.declared.Answer.{Answer}
-use Rattle.control.specs.Control.{link, withLink, stalled, Done, taken, refused, within, endSession, Gives}
+use Rattle.control.specs.Control.{link, withLink, stalled, Done, taken, refused, Gives}
 use Rattle.dispatch.specs.Commands.{Ruled, ruled, onReceived}
-
--- ---- tick, disconnect
-
--- the thousandth counted tick ends the session
-abbrev pub onTick : Device → Done
-onTick d =
-    cond (d .link .session && not (stalled (d .air)))
-    (cond (leb 999 (d .link .ticks)) (endSession d)
-    (taken (withLink d (link true (d .link .ticks + 1) (d .link .run))) [] Nothing))
-    (taken d [] Nothing)
-
-abbrev pub onDisconnect : Bool → Device → Done
-onDisconnect true d = endSession d
-onDisconnect false d = taken (withLink d (link false (d .link .ticks) 0)) [] Nothing
-
-unfoldable pub tickDone : ℕ → Device → Done
-tickDone room d = within room d (onTick d)
-
-unfoldable pub disconnectDone : ℕ → Device → Done
-disconnectDone room d = within room d (onDisconnect (d .link .session) d)
-
--- ---- byte
 
 -- what a byte gives, and the memories of the run and of commands that it leaves
 pub record Fed : Type 0 where

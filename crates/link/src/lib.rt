@@ -1,5 +1,4 @@
-// Three of the ten events, the host's side: byte, tick, disconnect. 01 "A run of bytes becomes a
-// frame" and "What each event does".
+// One of the ten events: byte. 01 "A run of bytes becomes a frame".
 ghost use mathlib.Core.Path.{_≡_};
 ghost use Prim.Native.Nat.{_≤_};
 ghost use mathlib.Core.List.{[]};
@@ -8,7 +7,7 @@ ghost use Rattle.cobs.specs.Answers.{encodedMax};
 ghost use Rattle.device.specs.Frames as F;
 ghost use Rattle.control.specs.Control.{answerOf, Gives};
 ghost use Rattle.dispatch.specs.Commands.{Rules, onReceived};
-ghost use Rattle.link.specs.Link.{Feeds, tickDone, disconnectDone, byteDone, onJoin, onZero};
+ghost use Rattle.link.specs.Link.{Feeds, byteDone, onJoin, onZero};
 use cobs::ENCODED_MAX;
 use control::Answer;
 use control::Device;
@@ -19,14 +18,12 @@ use frame::Opened;
 use frame::PAYLOAD;
 use numbers::ROOM;
 use numbers::STALL;
-use queue::COMMANDS;
+use slot::COMMANDS;
 
 // The longest run that can be a frame.
 pub const RUN_MAX: usize = ENCODED_MAX;
 // The length of a run that is longer.
 const TOO_LONG: u16 = 283;
-// The highest liveness count: one tick more, the thousandth, ends the session.
-const TICKS_MAX: u16 = 999;
 // P 7.
 const EFRAME: u16 = 0x0102;
 
@@ -35,51 +32,6 @@ pub fn empty_run() -> [u8; RUN_MAX]
     ensures { λ r. ⌜ r ≡ replicate encodedMax 0 ⌝ }
 {
     [0; RUN_MAX]
-}
-
-// A millisecond. It writes nothing, and asks only for the room that an event's output must have.
-pub fn tick(d: Device, room: usize) -> Answer
-    ensures { λ r. ⌜ r ≡ answerOf 0 (tickDone room d) ⌝ }
-{
-    if room < ROOM_MIN {
-        return control::refuse(d, ROOM);
-    }
-    let link = d.link;
-    let air = d.air;
-    if link.session & !control::is_stalled(air) {
-        let ticks = link.ticks;
-        if TICKS_MAX <= ticks {
-            return control::end_session(d);
-        }
-        let next = Link {
-            session: true,
-            ticks: ticks + 1,
-            run: link.run,
-        };
-        let e = control::with_link(d, next);
-        return control::accept(e, 0, Order::Nothing);
-    }
-    control::accept(d, 0, Order::Nothing)
-}
-
-// The host is gone. It writes nothing.
-pub fn disconnect(d: Device, room: usize) -> Answer
-    ensures { λ r. ⌜ r ≡ answerOf 0 (disconnectDone room d) ⌝ }
-{
-    if room < ROOM_MIN {
-        return control::refuse(d, ROOM);
-    }
-    let link = d.link;
-    if link.session {
-        return control::end_session(d);
-    }
-    let next = Link {
-        session: false,
-        ticks: link.ticks,
-        run: 0,
-    };
-    let e = control::with_link(d, next);
-    control::accept(e, 0, Order::Nothing)
 }
 
 // A byte from the host.

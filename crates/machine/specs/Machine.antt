@@ -10,9 +10,11 @@ use Rattle.wire.specs.Wire.{sends}
 use Rattle.control.specs.declared.Device.{Device}
 use Rattle.control.specs.declared.Answer.{Answer}
 use Rattle.control.specs.Control.{Done, answerOf}
-use Rattle.outcome.specs.Outcomes.{clearDone, busyDone, sentDone, configuredDone, faultDone}
+use Rattle.outcome.specs.Outcomes.{clearDone, busyDone, sentDone, faultDone}
 use Rattle.inbox.specs.Packets.{packetOf, packetDone, requestDone}
-use Rattle.link.specs.Link.{byteDone, tickDone, disconnectDone}
+use Rattle.session.specs.Session.{tickDone, disconnectDone}
+use Rattle.configured.specs.Configured.{configuredDone}
+use Rattle.link.specs.Link.{byteDone}
 use Rattle.machine.specs.declared.Event.{Event}
 use Rattle.machine.specs.declared.Event.the-variants.{Byte, Tick, Clear, Busy, Sent, Configured, Fault, Packet, Request, Disconnect}
 

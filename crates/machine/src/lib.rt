@@ -5,7 +5,7 @@ use control::Device;
 use inbox::Heard;
 use inbox::PACKETS;
 use link::RUN_MAX;
-use queue::COMMANDS;
+use slot::COMMANDS;
 
 // The events: 01 "The tally behind demand 3". Sent has the airtime in us; a packet's bytes are lent
 // beside it.
@@ -40,7 +40,7 @@ pub fn step(
             return link::byte(d, b, run, commands, out);
         }
         Event::Tick => {
-            return link::tick(d, room);
+            return session::tick(d, room);
         }
         Event::Clear => {
             return outcome::clear(d, room);
@@ -52,7 +52,7 @@ pub fn step(
             return outcome::sent(d, airtime, commands, out);
         }
         Event::Configured => {
-            return outcome::configured(d, commands, out);
+            return configured::configured(d, commands, out);
         }
         Event::Fault => {
             return outcome::fault(d, commands, out);
@@ -64,7 +64,7 @@ pub fn step(
             return inbox::request(d, packets, out);
         }
         Event::Disconnect => {
-            return link::disconnect(d, room);
+            return session::disconnect(d, room);
         }
     }
 }

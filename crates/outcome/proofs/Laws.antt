@@ -1,14 +1,13 @@
--- Laws of the outcomes: what the arms that stand for several variants of the radio give, the payload of the OK to a SET_CONFIG, and the ERR of a fault.
+-- Laws of the outcomes: what the arms that stand for several variants of the radio give, and the ERR of a fault.
 -- Assumes nothing.
-use Prim.Native.Nat.{ℕ, _+_, _≤_}
-use mathlib.Core.Path.{_≡_, refl, ap, _∙_}
+use Prim.Native.Nat.{ℕ, _≤_}
+use mathlib.Core.Path.{_≡_, refl}
 use mathlib.Core.Bool.{Bool, true, false}
 use mathlib.Core.List.{List, [], _∷_}
 use native.Mathlib.Omega.{arith}
 use denote.Enum.Declared.{tagOf}
 use types.Run.{OneOf, miss}
-use lib.ListN.{length, take, drop, length-take, length-drop}
-use lib.Seq.{take-at}
+use lib.ListN.{length}
 use Rattle.numbers.specs.Numbers.{PLACE}
 use Rattle.buffer.specs.Lay.{lay}
 use Rattle.device.specs.Messages.{Frame, ERADIO}
@@ -20,7 +19,7 @@ use Rattle.control.specs.declared.Device.{Device}
 use Rattle.control.specs.Control.{Done, refused, says}
 use Rattle.control.proofs.Radio.{the-type}
 use Rattle.queue.specs.Queue.{afterTx}
-use Rattle.outcome.specs.Outcomes.{onSent, onConfigured, onFault, noted}
+use Rattle.outcome.specs.Outcomes.{onSent, onFault, noted}
 
 -- ---- the arms of a match that stand for several variants
 
@@ -38,16 +37,6 @@ unless-listening f a b p q (Listening t) k = absurd (miss not-listening 1 tt k)
 unless-listening f a b p q (OnAir t) k = b t
 unless-listening f a b p q Orphan k = p
 unless-listening f a b p q Configuring k = q
-
-abbrev not-configuring : List ℕ
-not-configuring = 0 ∷ 1 ∷ 2 ∷ 3 ∷ []
-
-pub configured-other : (r : Radio) (m : List ℕ) (d : Device) → Arm not-configuring r → onConfigured r m d ≡ refused PLACE d
-configured-other Free m d k = refl
-configured-other (Listening t) m d k = refl
-configured-other (OnAir t) m d k = refl
-configured-other Orphan m d k = refl
-configured-other Configuring m d k = absurd (miss not-configuring 4 tt k)
 
 abbrev not-sending : List ℕ
 not-sending = 0 ∷ 1 ∷ 4 ∷ []
@@ -69,17 +58,6 @@ fault-other (Listening t) m d k = absurd (miss not-held 1 tt k)
 fault-other (OnAir t) m d k = absurd (miss not-held 2 tt k)
 fault-other Orphan m d k = refl
 fault-other Configuring m d k = absurd (miss not-held 4 tt k)
-
--- ---- the OK to a SET_CONFIG
-
--- the parameters as they came are all there
-pub length-part : (n at : ℕ) (m : List ℕ) → at + n ≤ length m → {p : List ℕ} → p ≡ take n (drop at m) → length p ≡ n
-length-part n at m h e = ap length e ∙ simp (length-take, length-drop) (omega arith)
-
--- two bytes, and then p
-pub two-before : (a b : ℕ) (p d : List ℕ) (n : ℕ) → length p ≡ n + 1 → take (2 + n + 1) (lay 2 p (a ∷ b ∷ d)) ≡ a ∷ b ∷ p
-unfolding lay
-two-before a b p d n e = take-at (a ∷ b ∷ p) (drop (2 + length p) (a ∷ b ∷ d)) (2 + n + 1) (omega arith)
 
 -- ---- the ERR of a fault
 

@@ -1,22 +1,18 @@
 -- The radio's outcomes, item by item: 01 "What each event does". `m` is the memory of commands.
 -- Assumes nothing.
 use Prim.Native.Nat.{ℕ}
-use mathlib.Core.Bool.{Bool, true, false, cond}
+use mathlib.Core.Bool.{Bool}
 use mathlib.Core.List.{List, [], _∷_, map}
-use lib.Dec.{eqb}
 use Rattle.numbers.specs.Numbers.{PLACE}
-use Rattle.kind.specs.Kinds.{OK}
-use Rattle.modulation.specs.Modulations.{LORA}
-use Rattle.device.specs.Messages.{Frame, frame, seen, err, txDone, ERADIO, TRANSMITTED, CHANNEL-BUSY, CANCELLED, APPLIED, MINE}
+use Rattle.device.specs.Messages.{Frame, seen, err, txDone, ERADIO, TRANSMITTED, CHANNEL-BUSY, CANCELLED}
 use Rattle.device.specs.Events.{heard}
-use Rattle.control.specs.declared.Mode.{Mode}
-use Rattle.control.specs.declared.Mode.the-variants.{Unconfigured, Lora, Fsk}
+use Rattle.control.specs.declared.Mode.the-variants.{Unconfigured}
 use Rattle.control.specs.declared.Radio.{Radio}
 use Rattle.control.specs.declared.Radio.the-variants.{Free, Listening, OnAir, Orphan, Configuring}
 use Rattle.control.specs.declared.Device.{Device}
 use Rattle.control.specs.declared.Order.the-variants.{Nothing, Standby}
 use Rattle.control.specs.Control.{device, withAir, withRadio, Done, taken, refused, within, says}
-use Rattle.queue.specs.Slots.{setting, tagAt, headAt, payloadAt}
+use Rattle.slot.specs.Slots.{setting, tagAt}
 use Rattle.queue.specs.Queue.{afterTx}
 
 -- ---- clear, busy, sent
@@ -42,27 +38,6 @@ onSent airtime (OnAir t) m d = says (seen (txDone TRANSMITTED airtime t) ∷ [])
 onSent airtime Orphan m d = afterTx m d
 onSent airtime Configuring m d = refused PLACE d
 
--- ---- configured
-
-abbrev pub modeOf : ℕ → Mode
-modeOf id = cond (eqb id LORA) Lora Fsk
-
--- the OK with result 0, owner 1, and the modulation and parameters as they came
-abbrev pub okConfigured : List ℕ → Frame
-okConfigured m = frame OK (tagAt m setting) (APPLIED ∷ MINE ∷ payloadAt m setting)
-
-abbrev pub inForce : Bool → List ℕ → Device → Done
-inForce true m d =
-    taken (device (modeOf (headAt m setting)) (d .link) (withRadio (d .air) Free) (d .inbox)) (okConfigured m ∷ []) Nothing
-inForce false m d = taken (withAir d (withRadio (d .air) Free)) [] Standby
-
-abbrev pub onConfigured : Radio → List ℕ → Device → Done
-onConfigured Free m d = refused PLACE d
-onConfigured (Listening t) m d = refused PLACE d
-onConfigured (OnAir t) m d = refused PLACE d
-onConfigured Orphan m d = refused PLACE d
-onConfigured Configuring m d = inForce (d .link .session) m d
-
 -- ---- fault
 
 -- ERR(ERADIO) in an open session
@@ -84,7 +59,7 @@ onFault (OnAir t) m d = lost t m d
 onFault Orphan m d = says (noted (d .link .session) 0) (afterTx m d)
 onFault Configuring m d = failed m d
 
--- ---- the five outcomes, with output of so much room
+-- ---- the four outcomes, with output of so much room
 
 unfoldable pub clearDone : ℕ → Device → Done
 clearDone room d = within room d (onClear (d .air .radio) d)
@@ -94,9 +69,6 @@ busyDone room m d = within room d (onBusy (d .air .radio) m d)
 
 unfoldable pub sentDone : ℕ → ℕ → List ℕ → Device → Done
 sentDone room airtime m d = within room d (onSent airtime (d .air .radio) m d)
-
-unfoldable pub configuredDone : ℕ → List ℕ → Device → Done
-configuredDone room m d = within room d (onConfigured (d .air .radio) m d)
 
 unfoldable pub faultDone : ℕ → List ℕ → Device → Done
 faultDone room m d = within room d (onFault (d .air .radio) m d)

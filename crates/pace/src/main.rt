@@ -17,7 +17,7 @@ use inbox::PACKETS;
 use link::RUN_MAX;
 use modulation::Lora;
 use modulation::Modulation;
-use queue::COMMANDS;
+use slot::COMMANDS;
 
 // The output that is lent: just enough.
 const ROOM: usize = 283;
@@ -71,7 +71,7 @@ fn ticks(c: Count) -> Count {
     let mut i: usize = 0;
     while i < 999 {
         i += 1;
-        e = add(e, link::tick(e.device, ROOM));
+        e = add(e, session::tick(e.device, ROOM));
     }
     e
 }
@@ -79,7 +79,7 @@ fn ticks(c: Count) -> Count {
 // A disconnect, with the bytes of the run counted before it.
 fn leave(c: Count) -> Count {
     let link = c.device.link;
-    let a = link::disconnect(c.device, ROOM);
+    let a = session::disconnect(c.device, ROOM);
     let device = a.device;
     Count {
         device,
@@ -237,14 +237,14 @@ fn ready(
         return c;
     }
     let e = send(c, configuration(), run, commands, out);
-    let a = outcome::configured(e.device, commands, out);
+    let a = configured::configured(e.device, commands, out);
     send(add(e, a), Command::RxStart, run, commands, out)
 }
 
 // So many rounds of some work.
 fn work(what: u8, n: usize) -> usize {
     let mut run = link::empty_run();
-    let mut commands = queue::empty_commands();
+    let mut commands = slot::empty_commands();
     let mut packets = inbox::empty_packets();
     let mut out = [0u8; ROOM];
     let mut ping = [0u8; ROOM];

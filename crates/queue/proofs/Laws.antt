@@ -1,4 +1,4 @@
--- Laws of the slots, and of the loop that cancels those that wait: what is left to write, laid on the output as it is, is all that is to be written, laid on the
+-- Laws of what comes after a TX, and of the loop that cancels those that wait: what is left to write, laid on the output as it is, is all that is to be written, laid on the
 -- output as it was.
 -- Assumes nothing.
 use Prim.Native.Nat.{ℕ, zero, suc, _+_, _-_, _*_, _%_, _<_, _≤_}
@@ -14,15 +14,8 @@ use Rattle.device.specs.Messages.{seen, txDone, CANCELLED}
 use Rattle.wire.specs.Wire.{bytesOf, sends, Says}
 use Rattle.wire.proofs.Laws.{lay-after, length-done}
 use Rattle.control.specs.declared.Device.{Device}
-use Rattle.queue.specs.Slots.{slotBytes, tagAt}
+use Rattle.slot.specs.Slots.{slotBytes, tagAt}
 use Rattle.queue.specs.Queue.{start, waitingTags, cancels, begin, next, afterTx}
-
--- the length, the tag and the payload, one after another
-pub slot-laid : (at t : ℕ) (p d : List ℕ) → at < length d
-    → lay (at + 3) p (lay (at + 1) (le 2 t) (set d at (length p - 1))) ≡ lay at (slotBytes t p) d
-unfolding le
-slot-laid at t p d h =
-    ap (lay (at + 3) p) (lay-next at (length p - 1) (le 2 t) d h) ∙ lay-after at ((length p - 1) ∷ le 2 t) p d
 
 -- ---- those that wait
 

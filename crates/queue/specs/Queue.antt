@@ -17,7 +17,7 @@ use Rattle.control.specs.declared.Radio.the-variants.{Free, Configuring}
 use Rattle.control.specs.declared.Device.{Device}
 use Rattle.control.specs.declared.Order.the-variants.{Configure, Transmit}
 use Rattle.control.specs.Control.{radioIs, air, withAir, Done, taken, idle}
-use Rattle.queue.specs.Slots.{slotSize, setting, lenAt, tagAt, headAt}
+use Rattle.slot.specs.Slots.{slotSize, setting, lenAt, tagAt, headAt}
 
 -- ---- a TX starts
 

@@ -1,12 +1,11 @@
 // The commands that were taken and are not done: the TX that are with the radio or wait, and the
-// SET_CONFIG that waits or runs. Their bytes stand in lent memory, in slots; helpers of the events.
+// SET_CONFIG that waits or runs. Helpers of the events.
 ghost use mathlib.Core.Path.{_≡_};
 ghost use Prim.Native.Nat.{_+_, _*_, _≤_, _<_, min};
-ghost use lib.ListN.{length, getD, replicate};
+ghost use lib.ListN.{length};
 ghost use Rattle.control.specs.Control.{Gives, answerOf};
 ghost use Rattle.wire.specs.Wire.{sends};
 ghost use Rattle.buffer.specs.Lay.{lay};
-ghost use Rattle.queue.specs.Slots.{commandsSize, slotBytes, kept};
 ghost use Rattle.queue.specs.Queue.{listens, begun, start, waitingTags, cancels, ldroAt, begin, afterTx};
 use control::Air;
 use control::Answer;
@@ -14,21 +13,16 @@ use control::Device;
 use control::Mode;
 use control::Order;
 use control::Radio;
+use slot::COMMANDS;
+use slot::PAYLOAD;
+use slot::SETTING;
+use slot::SLOT_SIZE;
+use slot::TAG;
 
 // So many TX can be open: 01 "What the firmware covers".
 pub const TX_MAX: usize = 16;
-// A slot: the payload's length less one, the tag, and the payload of up to 256 bytes.
-pub const SLOT_SIZE: usize = 259;
-// Where the tag stands in it, the payload, and what comes after the payload's first byte.
-pub const TAG: usize = 1;
-
-pub const PAYLOAD: usize = 3;
-
-const REST: usize = 4;
-// The slot of the SET_CONFIG, after those of the TX.
-pub const SETTING: usize = 16;
-// The memory of commands: seventeen slots.
-pub const COMMANDS: usize = 4403;
+// Where the packet stands in the slot of a TX, after its flags.
+const PACKET: usize = 4;
 // Where sf and bw stand in the payload of a SET_CONFIG: P 10.1, after the modulation.
 const SF: usize = 5;
 
@@ -36,42 +30,6 @@ const BW: usize = 6;
 
 // P 6.10: the result of a TX that was cancelled.
 pub const CANCELLED: u8 = 2;
-
-// The memory of commands at power-up.
-pub fn empty_commands() -> [u8; COMMANDS]
-    ensures { λ r. ⌜ r ≡ replicate commandsSize 0 ⌝ }
-{
-    [0; COMMANDS]
-}
-
-// Puts a command into a slot.
-pub fn keep(slot: usize, tag: u16, payload: &[u8], commands: &mut [u8; COMMANDS])
-    requires { ⌜ slot ≤ 16 ⌝ }
-    requires { ⌜ (1 ≤ length (now payload)) × (length (now payload) ≤ 256) ⌝ }
-    ensures { λ _. ⌜ now (commands .exit) ≡ kept (now (commands .entry)) slot tag (now (payload .entry)) ⌝ }
-{
-    put(slot * SLOT_SIZE, tag, payload, commands);
-}
-
-// Writes a command to memory, from index at on.
-fn put(at: usize, tag: u16, payload: &[u8], memory: &mut [u8])
-    requires { ⌜ at + (3 + length (now payload)) ≤ length (now memory) ⌝ }
-    requires { ⌜ (1 ≤ length (now payload)) × (length (now payload) ≤ 256) ⌝ }
-    ensures { λ _. ⌜ now (memory .exit) ≡ lay at (slotBytes tag (now (payload .entry))) (now (memory .entry)) ⌝ }
-{
-    let t = scalar::bytes_of_u16(tag);
-    memory[at] = (payload.len() - 1) as u8;
-    buffer::copy(&t, memory, at + TAG);
-    buffer::copy(payload, memory, at + PAYLOAD);
-}
-
-// The length that stands at an index.
-pub fn len_at(commands: &[u8], at: usize) -> usize
-    requires { ⌜ at < length (now commands) ⌝ }
-    ensures { λ r. ⌜ (r ≡ getD (now (commands .entry)) at 0) × (r ≤ 255) ⌝ }
-{
-    commands[at] as usize
-}
 
 // Whether a TX listens first.
 fn listens(mode: Mode, flags: u8) -> bool
@@ -100,7 +58,7 @@ pub fn start(d: Device, slot: usize, waiting: u8, commands: &[u8; COMMANDS], at:
     ensures { λ r. ⌜ r ≡ answerOf at (start (now (commands .entry)) slot waiting d) ⌝ }
 {
     let base = slot * SLOT_SIZE;
-    let len = len_at(commands, base);
+    let len = slot::len_at(commands, base);
     let tag = scalar::u16_at(commands, base + TAG);
     let mode = d.mode;
     let listen = listens(mode, commands[base + PAYLOAD]);
@@ -114,7 +72,7 @@ pub fn start(d: Device, slot: usize, waiting: u8, commands: &[u8; COMMANDS], at:
     };
     let e = control::with_air(d, air);
     let order = Order::Transmit {
-        at: base + REST,
+        at: base + PACKET,
         len,
         listen,
     };
@@ -180,7 +138,7 @@ pub fn configure(d: Device, commands: &[u8; COMMANDS], out: &mut [u8], at: usize
     };
     let e = control::with_air(d, air);
     let base = SETTING * SLOT_SIZE;
-    let len = len_at(commands, base);
+    let len = slot::len_at(commands, base);
     let order = Order::Configure {
         at: base + PAYLOAD,
         len: len + 1,

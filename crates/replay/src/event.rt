@@ -5,8 +5,8 @@ use inbox::Heard;
 use inbox::PACKETS;
 use link::RUN_MAX;
 use machine::Event;
-use queue::COMMANDS;
 use script::Item;
+use slot::COMMANDS;
 
 // The output that is lent at the start.
 const ROOM: usize = 283;

@@ -10,8 +10,8 @@ use inbox::PACKETS;
 use libc::STDERR_FILENO;
 use libc::STDIN_FILENO;
 use link::RUN_MAX;
-use queue::COMMANDS;
 use script::Item;
+use slot::COMMANDS;
 
 // The longest line that is kept, where blanks after a blank and a comment's text do not count. A
 // longer one is a bad line.
@@ -267,7 +267,7 @@ fn main() {
     let mut line = empty_line();
     let mut bytes = empty_bytes();
     let mut run = link::empty_run();
-    let mut commands = queue::empty_commands();
+    let mut commands = slot::empty_commands();
     let mut packets = inbox::empty_packets();
     let mut out = io::buffer();
     let mut piece = io::large_buffer();

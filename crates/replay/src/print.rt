@@ -2,7 +2,7 @@
 use control::Answer;
 use libc::STDERR_FILENO;
 use libc::STDOUT_FILENO;
-use queue::COMMANDS;
+use slot::COMMANDS;
 
 // So much output is shown at most: no event writes as much.
 const OUT: usize = 4096;

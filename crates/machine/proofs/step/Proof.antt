@@ -5,178 +5,130 @@ use Rattle.machine.specs.Machine.{runs}
 use borrow.Author.Needs.{needs}
 use Rattle.machine.proofs.step.Statement.{statement}
 use Rattle.machine.proofs.step.Tie as tie
-use Rattle.machine.proofs.step.Reads as reads
-use Rattle.machine.proofs.step.Lts as lts
-use Rattle.inbox.proofs.packet.Reads as packet-reads
-use Rattle.inbox.proofs.request.Reads as request-reads
-use Rattle.link.proofs.byte.Reads as byte-reads
-use Rattle.link.proofs.disconnect.Reads as disconnect-reads
-use Rattle.link.proofs.tick.Reads as tick-reads
-use Rattle.outcome.proofs.busy.Reads as busy-reads
-use Rattle.outcome.proofs.clear.Reads as clear-reads
-use Rattle.outcome.proofs.configured.Reads as configured-reads
-use Rattle.outcome.proofs.fault.Reads as fault-reads
-use Rattle.outcome.proofs.sent.Reads as sent-reads
 
--- src/lib.rt:39:21
 enum-known-e : tie.Need-enum-known-e
 enum-known-e c = search needs
 
--- src/lib.rt:40:13
 byte-requires : tie.Need-byte-requires
 byte-requires c κs = search needs
 
--- src/lib.rt:40:13
 same-length : tie.Need-same-length
 same-length c = search needs
 
--- src/lib.rt:40:13
 returns : tie.Need-returns
 unfolding runs
 returns c =
     rw (c .before .before .before .before .before .before .before .e .given .1) (record { answers = c .before .before .byte .ensures .gives .answers; run = c .before .before .byte .ensures .run; commands = c .before .before .byte .ensures .commands; packets = refl; out = c .before .before .byte .ensures .gives .writes })
 
--- src/lib.rt:43:13
 enum-told : tie.Need-enum-told
 enum-told c = search needs
 
--- src/lib.rt:43:13
 tick-requires : tie.Need-tick-requires
 tick-requires c κs = search needs
 
--- src/lib.rt:43:13
 returns-2 : tie.Need-returns-2
 unfolding runs
 returns-2 c =
     rw (c .before .enum-told .given .1) (record { answers = c .tick .ensures; run = refl; commands = refl; packets = refl; out = refl })
 
--- src/lib.rt:46:13
 enum-told-2 : tie.Need-enum-told-2
 enum-told-2 c = search needs
 
--- src/lib.rt:46:13
 clear-requires : tie.Need-clear-requires
 clear-requires c κs = search needs
 
--- src/lib.rt:46:13
 returns-3 : tie.Need-returns-3
 unfolding runs
 returns-3 c =
     rw (c .before .enum-told2 .given .1) (record { answers = c .clear .ensures; run = refl; commands = refl; packets = refl; out = refl })
 
--- src/lib.rt:49:37
 enum-told-3 : tie.Need-enum-told-3
 enum-told-3 c = search needs
 
--- src/lib.rt:49:13
 busy-requires : tie.Need-busy-requires
 busy-requires c κs = search needs
 
--- src/lib.rt:49:13
 same-length-2 : tie.Need-same-length-2
 same-length-2 c = search needs
 
--- src/lib.rt:49:13
 returns-4 : tie.Need-returns-4
 unfolding runs
 returns-4 c =
     rw (c .before .before .before .before .before .enum-told3 .given .1) (record { answers = c .before .before .busy .ensures .answers; run = refl; commands = refl; packets = refl; out = c .before .before .busy .ensures .writes })
 
--- src/lib.rt:51:21
 enum-known-e-2 : tie.Need-enum-known-e-2
 enum-known-e-2 c = search needs
 
--- src/lib.rt:52:13
 sent-requires : tie.Need-sent-requires
 sent-requires c κs = search needs
 
--- src/lib.rt:52:13
 same-length-3 : tie.Need-same-length-3
 same-length-3 c = search needs
 
--- src/lib.rt:52:13
 returns-5 : tie.Need-returns-5
 unfolding runs
 returns-5 c =
     rw (c .before .before .before .before .before .before .e2 .given .1) (record { answers = c .before .before .sent .ensures .answers; run = refl; commands = refl; packets = refl; out = c .before .before .sent .ensures .writes })
 
--- src/lib.rt:55:43
 enum-told-4 : tie.Need-enum-told-4
 enum-told-4 c = search needs
 
--- src/lib.rt:55:13
 configured-requires : tie.Need-configured-requires
 configured-requires c κs = search needs
 
--- src/lib.rt:55:13
 same-length-4 : tie.Need-same-length-4
 same-length-4 c = search needs
 
--- src/lib.rt:55:13
 returns-6 : tie.Need-returns-6
 unfolding runs
 returns-6 c =
     rw (c .before .before .before .before .before .enum-told4 .given .1) (record { answers = c .before .before .configured .ensures .answers; run = refl; commands = refl; packets = refl; out = c .before .before .configured .ensures .writes })
 
--- src/lib.rt:58:38
 enum-told-5 : tie.Need-enum-told-5
 enum-told-5 c = search needs
 
--- src/lib.rt:58:13
 fault-requires : tie.Need-fault-requires
 fault-requires c κs = search needs
 
--- src/lib.rt:58:13
 same-length-5 : tie.Need-same-length-5
 same-length-5 c = search needs
 
--- src/lib.rt:58:13
 returns-7 : tie.Need-returns-7
 unfolding runs
 returns-7 c =
     rw (c .before .before .before .before .before .enum-told5 .given .1) (record { answers = c .before .before .fault .ensures .answers; run = refl; commands = refl; packets = refl; out = c .before .before .fault .ensures .writes })
 
--- src/lib.rt:60:23
 enum-known-e-3 : tie.Need-enum-known-e-3
 enum-known-e-3 c = search needs
 
--- src/lib.rt:61:13
 packet-requires : tie.Need-packet-requires
 packet-requires c κs = search needs
 
--- src/lib.rt:61:13
 returns-8 : tie.Need-returns-8
 unfolding runs
 returns-8 c =
     rw (c .before .before .before .e3 .given .1) (record { answers = c .packet .ensures .answers; run = refl; commands = refl; packets = c .packet .ensures .packets; out = refl })
 
--- src/lib.rt:64:38
 enum-told-6 : tie.Need-enum-told-6
 enum-told-6 c = search needs
 
--- src/lib.rt:64:13
 request-requires : tie.Need-request-requires
 request-requires c κs = search needs
 
--- src/lib.rt:64:13
 same-length-6 : tie.Need-same-length-6
 same-length-6 c = search needs
 
--- src/lib.rt:64:13
 returns-9 : tie.Need-returns-9
 unfolding runs
 returns-9 c =
     rw (c .before .before .before .before .before .enum-told6 .given .1) (record { answers = c .before .before .request .ensures .gives .answers; run = refl; commands = refl; packets = c .before .before .request .ensures .packets; out = c .before .before .request .ensures .gives .writes })
 
--- src/lib.rt:67:13
 enum-told-7 : tie.Need-enum-told-7
 enum-told-7 c = search needs
 
--- src/lib.rt:67:13
 disconnect-requires : tie.Need-disconnect-requires
 disconnect-requires c κs = search needs
 
--- src/lib.rt:67:13
 returns-10 : tie.Need-returns-10
 unfolding runs
 returns-10 c =

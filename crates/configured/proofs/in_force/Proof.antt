@@ -1,0 +1,69 @@
+-- In an open session the OK is written and the mode is that of the SET_CONFIG; else nothing is said.
+-- Assumes nothing.
+use mathlib.Core.Path.{ap, _∙_}
+use mathlib.Core.Bool.{Bool, true, false}
+use Rattle.wire.proofs.Laws.{sent-one}
+use Rattle.control.proofs.Laws.{gives, spoken, quiet}
+use Rattle.configured.specs.Configured.{inForce}
+use borrow.Author.Needs.{needs}
+use Rattle.configured.proofs.in_force.Statement.{statement}
+use Rattle.configured.proofs.in_force.Tie as tie
+
+with-radio-requires : tie.Need-with-radio-requires
+with-radio-requires c κs = search needs
+
+say-configured-requires : tie.Need-say-configured-requires
+say-configured-requires c κs = search needs
+
+mul-mode-of : tie.Need-mul-mode-of
+mul-mode-of c = search needs
+
+add-mode-of : tie.Need-add-mode-of
+add-mode-of c = search needs
+
+element-copy-out-mode-of : tie.Need-element-copy-out-mode-of
+element-copy-out-mode-of c = search needs
+
+mode-of-requires : tie.Need-mode-of-requires
+mode-of-requires c κs = search needs
+
+accept-requires : tie.Need-accept-requires
+accept-requires c κs = search needs
+
+same-length : tie.Need-same-length
+same-length c = search needs
+
+returns : tie.Need-returns
+returns c =
+    let d = c .before .before .before .before .before .before .before .before .before .before .before .before .before .args .d in
+    let m = c .before .before .before .before .before .before .before .before .before .before .before .before .before .args .commands .now in
+    gives (inForce true m d) (ap (λ (b : Bool). inForce b m d) (c .before .before .before .before .before .before .before .before .if1 .taken)) (spoken _ _ _ (sent-one (c .before .before .before .before .before .before .say-configured .ensures)) (c .accept .ensures ∙ simp (c .before .before .mode-of .ensures, c .before .before .before .before .before .before .before .before .before .before .with-radio .ensures)))
+
+with-air-requires : tie.Need-with-air-requires
+with-air-requires c κs = search needs
+
+accept-requires-2 : tie.Need-accept-requires-2
+accept-requires-2 c κs = search needs
+
+returns-2 : tie.Need-returns-2
+returns-2 c =
+    let d = c .before .before .before .before .before .before .before .args .d in
+    let m = c .before .before .before .before .before .before .before .args .commands .now in
+    gives (inForce false m d) (ap (λ (b : Bool). inForce b m d) (c .before .before .if1 .left)) (quiet _ _ _ _ 0 (rw (c .before .with-air .ensures, c .before .before .before .before .with-radio .ensures) at (c .accept2 .ensures)))
+
+pub in-force-spec : {M : Type 1} → statement M
+in-force-spec =
+    tie.close
+    (tie.spec
+    with-radio-requires
+    say-configured-requires
+    mul-mode-of
+    add-mode-of
+    element-copy-out-mode-of
+    mode-of-requires
+    accept-requires
+    same-length
+    returns
+    with-air-requires
+    accept-requires-2
+    returns-2)
