@@ -31,9 +31,9 @@ use Rattle.rx.specs.Ranges.{RxIn}
 use Rattle.rx.proofs.Laws.{length-rx, rx-form-back}
 use Rattle.answer.specs.Answers.{configuredForm, configuredBytes, txDoneForm, txDoneMax, txDoneBytes, answerForm, answerKind, answerName, answerBytes}
 use Rattle.answer.proofs.Laws.{answer-is}
-use Rattle.message.specs.Judging.{has, formOf, fitsWritten, judge}
-use Rattle.message.specs.Writing.{writeAnswer, writeLeft}
-use Rattle.message.specs.declared.Kinds.the-variants as K
+use Rattle.verdict.specs.Judging.{has, formOf, fitsWritten, judge}
+use Rattle.verdict.specs.declared.Kinds.the-variants as K
+use Rattle.writer.specs.Writing.{writeAnswer, writeLeft}
 use Rattle.message.proofs.Laws.{answer-frame}
 use Rattle.board.specs.Board.{Board, infoOf, uidsOf}
 use Rattle.device.specs.State.{Config, Setting, Packet}

@@ -21,9 +21,9 @@ use Rattle.frame.specs.declared.Opened.the-variants as O
 use Rattle.frame.specs.declared.Written.the-variants as W
 use Rattle.answer.specs.Answers.{answerKind, answerName, Names, readAnswer, answerTail}
 use Rattle.answer.specs.declared.Answered.the-variants as D
-use Rattle.message.specs.Reading.{receiveAnswer}
-use Rattle.message.specs.Writing.{writeAnswer, writeLeft}
-use Rattle.message.specs.declared.Kinds.the-variants as K
+use Rattle.verdict.specs.declared.Kinds.the-variants as K
+use Rattle.reader.specs.Reading.{receiveAnswer}
+use Rattle.writer.specs.Writing.{writeAnswer, writeLeft}
 use Rattle.board.specs.Board.{Board}
 use Rattle.device.specs.State.{RadioOf, free, listening, onAir, orphan, configuring, State, link, withLink, powerUp, held, tagsOf, free?, runs?, stalled}
 use Rattle.device.specs.State.{Event, byte, tick, clear, busy, sent, configured, fault, packet, request, disconnect, Input, nothing}
@@ -171,7 +171,7 @@ history y is = after y (begins y) is
 
 -- ---- demand 2, the bytes: what an event writes is read back as the messages written
 
--- The writer of answers (crate message) takes it into any memory that an event may be lent, and writes just these bytes; and the host's reader, with any command
+-- The writer of answers (crate writer) takes it into any memory that an event may be lent, and writes just these bytes; and the host's reader, with any command
 -- named that the answer may have, takes the frame, and has the same answer with the same bytes.
 pub record Back (m : Message) : Type 0 where
   pub written : (room : ℕ) → 283 ≤ room → writeAnswer (K.Answers (answerName (m .answer))) (answerKind (m .answer)) (m .tag) (payload m) room ≡ W.Done (length (wire m))

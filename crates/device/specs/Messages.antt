@@ -114,7 +114,7 @@ rxValue p n =
 abbrev pub rx : Packet → ℕ → Message
 rx p n = message 0 (A.Rx (rxValue p n)) (p .bytes)
 
--- ---- their bytes: the writers' own frames (crate message, `writeLeft`), one after another
+-- ---- their bytes: the writers' own frames (crate writer, `writeLeft`), one after another
 
 abbrev pub payload : Message → List ℕ
 payload m = answerBytes (m .answer) (m .bytes)

@@ -8,8 +8,8 @@ ghost use Rattle.cobs.specs.Decoding.{decoded};
 ghost use Rattle.cobs.specs.Answers.{encodeAnswer, encodeLeft, encodeNumber, decodeAnswer, decodeLeft, decodeNumber};
 ghost use Rattle.rx.specs.Rx.{rxSize};
 ghost use Rattle.answer.specs.Answers.{txDoneSize};
-ghost use Rattle.message.specs.Reading.{receiveAnswer, receiveLeft};
-ghost use Rattle.message.specs.Writing.{writeAnswer, writeLeft};
+ghost use Rattle.reader.specs.Reading.{receiveAnswer, receiveLeft};
+ghost use Rattle.writer.specs.Writing.{writeAnswer, writeLeft};
 ghost use Rattle.donglora.specs.Written.{encodeWritten, decodeWritten, writeNumber, writeWritten};
 ghost use Rattle.donglora.specs.Reports.{rxSays, rxReport, txDoneSays, txDoneReport};
 use cobs::Decoded;
@@ -17,12 +17,12 @@ use cobs::Encoded;
 use frame::Opened;
 use frame::PAYLOAD;
 use frame::Written;
-use message::Kinds;
 use numbers::LENGTH;
 use numbers::SHORT;
 use numbers::STUFF;
 use numbers::TAKEN;
 use rx::RX_SIZE;
+use verdict::Kinds;
 
 // The check value of src.
 #[no_mangle]
@@ -104,7 +104,7 @@ pub extern "C" fn donglora_write_command(
     ensures { λ r. ⌜ now (dst .exit) ≡ writeLeft Kinds.Commands kind tag (now (payload .entry)) (now (dst .entry)) ⌝ }
     ensures { λ r. ⌜ now (written .exit) ≡ writeWritten (writeAnswer Kinds.Commands kind tag (now (payload .entry)) (length (now (dst .entry)))) (now (written .entry)) ⌝ }
 {
-    match message::write(Kinds::Commands, kind, tag, payload, dst) {
+    match writer::write(Kinds::Commands, kind, tag, payload, dst) {
         Written::Done(n) => {
             *written = n;
             TAKEN
@@ -119,7 +119,7 @@ pub extern "C" fn donglora_read_rx(run: &[u8], body: &mut [u8]) -> RxReport
     ensures { λ r. ⌜ r ≡ rxReport (receiveAnswer Kinds.Rx (now (run .entry)) (length (now (body .entry)))) (decoded (now (run .entry))) ⌝ }
     ensures { λ r. ⌜ now (body .exit) ≡ receiveLeft Kinds.Rx (now (run .entry)) (now (body .entry)) ⌝ }
 {
-    match message::receive(Kinds::Rx, run, body) {
+    match reader::receive(Kinds::Rx, run, body) {
         Opened::Body {
             kind: _,
             tag: _,
@@ -164,7 +164,7 @@ pub extern "C" fn donglora_read_tx_done(run: &[u8], body: &mut [u8]) -> TxDoneRe
     ensures { λ r. ⌜ r ≡ txDoneReport (receiveAnswer Kinds.TxDone (now (run .entry)) (length (now (body .entry)))) (decoded (now (run .entry))) ⌝ }
     ensures { λ r. ⌜ now (body .exit) ≡ receiveLeft Kinds.TxDone (now (run .entry)) (now (body .entry)) ⌝ }
 {
-    match message::receive(Kinds::TxDone, run, body) {
+    match reader::receive(Kinds::TxDone, run, body) {
         Opened::Body { kind: _, tag, len } => tx_done_report(tag, &body[PAYLOAD..PAYLOAD + len]),
         Opened::Refused(r) => TxDoneReport {
             number: numbers::refusal_number(r),

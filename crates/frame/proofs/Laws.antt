@@ -6,10 +6,11 @@ use mathlib.Core.Path.{_≡_, refl, sym, ap, _∙_}
 use mathlib.Core.Bool.{Bool, true, false, cond}
 use mathlib.Core.List.{List}
 use Prim.Native.Nat.{ℕ, _+_, _-_, _<_, _≤_}
+use native.Mathlib.Nat.{le-refl}
 use native.Mathlib.Omega.{arith}
 use borrow.Author.Tests.{le-ltb, ltb-false, eq-eqb, eqb-true}
 use lib.Dec.{ltb, eqb}
-use lib.ListN.{length, take, drop, length-append, length-drop}
+use lib.ListN.{length, take, drop, replicate, length-append, length-drop}
 use lib.Seq.{take-append-seam, drop-append-seam, take-append-le, drop-append-le}
 use Rattle.numbers.specs.declared.Refusal.{Refusal}
 use Rattle.buffer.specs.Lay.{lay}
@@ -171,6 +172,13 @@ module _ (run : List ℕ) (room : ℕ) (d : List ℕ) {k t n : ℕ} (e : openAns
       let l = o .long in
       let s : length b - overhead ≡ n = omega arith in
       rw (unpack-lays, s, drop-append-le 3 b _ (omega arith)) (take-append-le n (drop 3 b) _ (rw length-drop (omega arith)))
+
+-- the payload in working memory of zeros
+pub payload-seen : (run : List ℕ) (room : ℕ) (memory : List ℕ) {k t n : ℕ} → openAnswer run room ≡ O.Body k t n
+    → memory ≡ unpackLeft run room (replicate encodedMax 0) → take (3 + n - 3) (drop 3 memory) ≡ payloadOf (decoded run)
+payload-seen run room memory {k} {t} {n} e m =
+    let same : 3 + n - 3 ≡ n = omega arith in
+    rw (same, m) (unpack-payload run room (replicate encodedMax 0) e (le-refl encodedMax))
 
 -- lent memory then, and after a refusal
 pub open-lays : (run d : List ℕ) {k t n : ℕ} → openAnswer run (length d) ≡ O.Body k t n → openLeft run d ≡ lay 0 (decoded run) d

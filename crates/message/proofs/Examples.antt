@@ -17,10 +17,10 @@ use Rattle.kind.specs.declared.Name.the-variants as N
 use Rattle.command.specs.Commands.{txForm, commandForm}
 use Rattle.rx.specs.Rx.{rxForm}
 use Rattle.answer.specs.Answers.{txDoneForm, answerForm}
-use Rattle.message.specs.Judging.{has, formOf, fitsRead, judge}
-use Rattle.message.specs.Reading.{receiveAnswer}
-use Rattle.message.specs.declared.Kinds.{Kinds}
-use Rattle.message.specs.declared.Kinds.the-variants as K
+use Rattle.verdict.specs.Judging.{has, formOf, fitsRead, judge}
+use Rattle.reader.specs.Reading.{receiveAnswer}
+use Rattle.verdict.specs.declared.Kinds.{Kinds}
+use Rattle.verdict.specs.declared.Kinds.the-variants as K
 
 -- a frame of this type, tag and payload, read with room for 282 bytes
 abbrev pub reads : Kinds → ℕ → ℕ → List ℕ → Opened

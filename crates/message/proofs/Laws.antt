@@ -12,7 +12,6 @@ use Rattle.cobs.specs.Encoding.{encoded}
 use Rattle.cobs.specs.Decoding.{decoded}
 use Rattle.cobs.proofs.Laws.{round-trip}
 use Rattle.frame.specs.Body.{body, payloadMax, payloadOf}
-use Rattle.frame.specs.declared.Opened.the-variants as O
 use Rattle.frame.specs.declared.Written.{Written}
 use Rattle.frame.specs.declared.Written.the-variants as W
 use Rattle.frame.proofs.Laws.{payload-body, body-opens, frame-opens}
@@ -29,14 +28,15 @@ use Rattle.answer.specs.Ranges.{AnswerIn}
 use Rattle.answer.specs.declared.Answer.{Answer}
 use Rattle.answer.specs.declared.Answered.the-variants as D
 use Rattle.answer.proofs.Laws.{answer-small, answer-back, answer-tail, form-named, read-named, tail-named}
-use Rattle.message.specs.Judging.{has, formOf, fitsRead, fitsWritten, judge}
+use Rattle.verdict.specs.Judging.{has, formOf, fitsRead, fitsWritten, judge}
 use Rattle.message.specs.Back.{FrameBack, BodyBack}
-use Rattle.message.specs.Writing.{where-good, bodyAnswer, writeAnswer}
-use Rattle.message.specs.declared.Kinds.{Kinds}
-use Rattle.message.specs.declared.Kinds.the-variants as K
-use Rattle.message.specs.declared.Judged.{Judged}
-use Rattle.message.specs.declared.Judged.the-variants as J
-use Rattle.message.proofs.Steps.{Good, good, takes}
+use Rattle.writer.specs.Writing.{where-good, bodyAnswer, writeAnswer}
+use Rattle.verdict.specs.declared.Kinds.{Kinds}
+use Rattle.verdict.specs.declared.Kinds.the-variants as K
+use Rattle.verdict.specs.declared.Judged.{Judged}
+use Rattle.verdict.specs.declared.Judged.the-variants as J
+use Rattle.verdict.proofs.Laws.{Good, good}
+use Rattle.reader.proofs.Steps.{takes}
 
 -- ---- what was written was good
 

@@ -1,4 +1,2 @@
-pub mod Steps
-pub mod Kept
 pub mod Laws
 pub mod Examples

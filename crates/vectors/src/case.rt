@@ -11,11 +11,11 @@ use frame::Opened;
 use frame::PAYLOAD;
 use frame::Written;
 use kind::Name;
-use message::Kinds;
 use modulation::Lora;
 use modulation::Modulation;
 use numbers::TAKEN;
 use rx::Rx;
+use verdict::Kinds;
 
 // The longest frame: 282 bytes and the zero.
 pub(crate) const FRAME_MAX: usize = 283;
@@ -42,9 +42,9 @@ pub(crate) fn command(
     wire: &[u8],
 ) -> Score {
     let mut memory = [0u8; FRAME_MAX];
-    let built = written(message::build_command(c, tag, bytes, &mut memory));
+    let built = written(writer::build_command(c, tag, bytes, &mut memory));
     let is_body = text::shows(body, buffer::part(&memory, 0, built));
-    let len = written(message::write_command(c, tag, bytes, &mut memory));
+    let len = written(writer::write_command(c, tag, bytes, &mut memory));
     let frame = buffer::part(&memory, 0, len);
     let is_frame = text::shows(wire, frame);
     let is_back = command_back(c, tag, bytes, frame);
@@ -93,9 +93,9 @@ pub(crate) fn answer(
     wire: &[u8],
 ) -> Score {
     let mut memory = [0u8; FRAME_MAX];
-    let built = written(message::build_answer(a, tag, bytes, &mut memory));
+    let built = written(writer::build_answer(a, tag, bytes, &mut memory));
     let is_body = text::shows(body, buffer::part(&memory, 0, built));
-    let len = written(message::write_answer(a, tag, bytes, &mut memory));
+    let len = written(writer::write_answer(a, tag, bytes, &mut memory));
     let frame = buffer::part(&memory, 0, len);
     let is_frame = text::shows(wire, frame);
     let is_back = answer_back(a, name, tag, bytes, frame);
@@ -201,7 +201,7 @@ pub(crate) fn wrong(
 // Fields that make no right command: the writer refuses them with this number.
 pub(crate) fn unwritten(label: &[u8], tag: u16, c: Command, bytes: &[u8], number: u8) {
     let mut memory = [0u8; FRAME_MAX];
-    let w = message::write_command(c, tag, bytes, &mut memory);
+    let w = writer::write_command(c, tag, bytes, &mut memory);
     print_head(label, tag);
     print_refusal(b" from its fields: writer", number_of(w), number);
     io::write_all(1, b"\n");
@@ -250,7 +250,7 @@ fn run(frame: &[u8]) -> &[u8] {
 // Whether the device reads this command in a frame.
 pub(crate) fn command_back(c: Command, tag: u16, bytes: &[u8], frame: &[u8]) -> bool {
     let mut memory = [0u8; FRAME_MAX];
-    let opened = message::receive(Kinds::Commands, run(frame), &mut memory);
+    let opened = reader::receive(Kinds::Commands, run(frame), &mut memory);
     let Opened::Body { kind, tag: t, len } = opened else {
         return false;
     };
@@ -265,7 +265,7 @@ pub(crate) fn command_back(c: Command, tag: u16, bytes: &[u8], frame: &[u8]) -> 
 // Whether the host reads this answer in a frame.
 fn answer_back(a: Answer, name: Name, tag: u16, bytes: &[u8], frame: &[u8]) -> bool {
     let mut memory = [0u8; FRAME_MAX];
-    let opened = message::receive(Kinds::Answers(name), run(frame), &mut memory);
+    let opened = reader::receive(Kinds::Answers(name), run(frame), &mut memory);
     let Opened::Body { kind, tag: t, len } = opened else {
         return false;
     };
@@ -296,7 +296,7 @@ fn wrong_back(kind: u8, tag: u16, payload: &[u8], frame: &[u8]) -> bool {
 // The number that the reader of commands answers.
 fn read_number(frame: &[u8]) -> u8 {
     let mut memory = [0u8; FRAME_MAX];
-    match message::receive(Kinds::Commands, run(frame), &mut memory) {
+    match reader::receive(Kinds::Commands, run(frame), &mut memory) {
         Opened::Body {
             kind: _,
             tag: _,
@@ -309,7 +309,7 @@ fn read_number(frame: &[u8]) -> u8 {
 // The number that the writer of commands answers.
 fn write_number(kind: u8, tag: u16, payload: &[u8]) -> u8 {
     let mut memory = [0u8; FRAME_MAX];
-    number_of(message::write(Kinds::Commands, kind, tag, payload, &mut memory))
+    number_of(writer::write(Kinds::Commands, kind, tag, payload, &mut memory))
 }
 
 // The start of a line: the example with its message, and the tag.

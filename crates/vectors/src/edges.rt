@@ -54,9 +54,9 @@ fn long_run(s: Score) -> Score {
     count_up(&mut packet);
     let c = Command::Tx { flags: 1 };
     let mut memory = [0u8; FRAME_MAX];
-    let built = case::written(message::build_command(c, 0x0101, &packet, &mut memory));
+    let built = case::written(writer::build_command(c, 0x0101, &packet, &mut memory));
     let is_body = is_long_body(buffer::part(&memory, 0, built), &packet);
-    let len = case::written(message::write_command(c, 0x0101, &packet, &mut memory));
+    let len = case::written(writer::write_command(c, 0x0101, &packet, &mut memory));
     let frame = buffer::part(&memory, 0, len);
     let is_frame = is_long_frame(frame, &packet);
     let is_back = case::command_back(c, 0x0101, &packet, frame);

@@ -122,7 +122,7 @@ fn write_at(tag: u16, packet: &[u8], out: &mut [u8], at: usize) {
     if out.len() < at {
         return;
     }
-    message::write_command(Command::Tx { flags: 0 }, tag, packet, &mut out[at..]);
+    writer::write_command(Command::Tx { flags: 0 }, tag, packet, &mut out[at..]);
 }
 
 // Whether these are P's 27 bytes.

@@ -5,8 +5,7 @@ use native.Mathlib.Omega.{arith}
 use lib.ListN.{take}
 use lib.Seq.{length-take-le}
 use Rattle.cobs.specs.Answers.{encodedMax}
-use Rattle.frame.proofs.Laws.{opens-facts}
-use Rattle.message.proofs.Steps.{payload-seen}
+use Rattle.frame.proofs.Laws.{opens-facts, payload-seen}
 use Rattle.link.proofs.Laws.{refused-run, untagged-run, tagged-run}
 use borrow.Author.Needs.{needs}
 use Rattle.link.proofs.receive.Statement.{statement}

@@ -1,0 +1,84 @@
+-- What reading answers and leaves, by the verdict: each law is one way through the code. And what an answer tells of the run that was read.
+-- Assumes nothing.
+use mathlib.Core.Path.{_≡_, refl}
+use mathlib.Core.List.{List}
+use Prim.Native.Nat.{ℕ, _+_, _-_, _≤_}
+use native.Mathlib.Omega.{arith}
+use lib.ListN.{length, take, drop, length-take, length-drop}
+use lib.Seq.{take-append-le, drop-append-le}
+use Rattle.numbers.specs.declared.Refusal.{Refusal}
+use Rattle.buffer.specs.Lay.{lay}
+use Rattle.cobs.specs.Decoding.{decoded}
+use Rattle.frame.specs.Body.{overhead, payloadOf}
+use Rattle.frame.specs.Reading.{openAnswer}
+use Rattle.frame.specs.declared.Opened.{Opened}
+use Rattle.frame.specs.declared.Opened.the-variants as O
+use Rattle.frame.proofs.Laws.{opens-facts}
+use Rattle.verdict.specs.Judging.{fitsRead, judge}
+use Rattle.verdict.specs.declared.Kinds.{Kinds}
+use Rattle.verdict.specs.declared.Judged.{Judged}
+use Rattle.verdict.specs.declared.Judged.the-variants as J
+use Rattle.verdict.proofs.Laws.{Good, good}
+use Rattle.reader.specs.Reading.{unless, sifted, receiveAnswer, receiveLeft}
+
+module _ (kinds : Kinds) (run d : List ℕ) where
+  -- the frame is refused
+  pub keeps : {r : Refusal} → openAnswer run (length d) ≡ O.Refused r
+      → (receiveAnswer kinds run (length d) ≡ O.Refused r) × (receiveLeft kinds run d ≡ d)
+  unfolding receiveAnswer receiveLeft
+  keeps e = (rw e, rw e)
+
+  module _ {k t n : ℕ} (e : openAnswer run (length d) ≡ O.Body k t n) where
+    -- the message is
+    pub refuses : {r : Refusal} → judge kinds k t (fitsRead kinds k (payloadOf (decoded run))) ≡ J.Refused r
+        → (receiveAnswer kinds run (length d) ≡ O.Refused r) × (receiveLeft kinds run d ≡ d)
+    unfolding receiveAnswer receiveLeft
+    refuses j = (rw (e, j), rw (e, j))
+
+    -- neither is
+    pub takes : judge kinds k t (fitsRead kinds k (payloadOf (decoded run))) ≡ J.Good
+        → (receiveAnswer kinds run (length d) ≡ O.Body k t n) × (receiveLeft kinds run d ≡ lay 0 (decoded run) d)
+    unfolding receiveAnswer receiveLeft
+    takes j = (rw (e, j), rw (e, j))
+
+-- ---- what was read, in the caller's memory
+
+sift-back : (kinds : Kinds) (b : List ℕ) (o : Opened) {k t n : ℕ} → sifted kinds b o ≡ O.Body k t n → o ≡ O.Body k t n
+sift-back kinds b (O.Refused r) e = absurd (let z : _≡_ {A = ℕ} 0 1 = cc in omega arith)
+sift-back kinds b (O.Body k' t' n') {k} {t} {n} e = go (judge kinds k' t' (fitsRead kinds k' (payloadOf b))) e
+  where
+    go : (j : Judged) → unless j (O.Body k' t' n') ≡ O.Body k t n → O.Body k' t' n' ≡ O.Body k t n
+    go J.Good f = f
+    go (J.Refused r) f = absurd (let z : _≡_ {A = ℕ} 0 1 = cc in omega arith)
+
+module _ (kinds : Kinds) (run d : List ℕ) {k t n : ℕ} (e : receiveAnswer kinds run (length d) ≡ O.Body k t n) where
+  -- a message that was taken was a frame
+  pub was-open : openAnswer run (length d) ≡ O.Body k t n
+  unfolding receiveAnswer
+  was-open = sift-back kinds (decoded run) (openAnswer run (length d)) e
+
+  -- its payload is that part of the memory
+  pub payload-there : take (3 + n - 3) (drop 3 (receiveLeft kinds run d)) ≡ payloadOf (decoded run)
+  unfolding receiveLeft lay
+  payload-there =
+      let o = opens-facts run (length d) was-open in
+      let same : 3 + n - 3 ≡ n = omega arith in
+      let size : length (decoded run) - overhead ≡ n = omega (arith, o .long) in
+      let three : 3 ≤ length (decoded run) = omega (arith, o .long) in
+      rw (same, e, drop-append-le 3 (decoded run) (drop (0 + length (decoded run)) d) three, size)
+      (take-append-le n (drop 3 (decoded run)) (drop (0 + length (decoded run)) d) (rw (length-drop 3 (decoded run)) (omega (arith, o .long))))
+
+  -- it passed TAG, TYPE and FORM
+  pub was-good : Good kinds k t (fitsRead kinds k (payloadOf (decoded run)))
+  unfolding receiveAnswer
+  was-good = good kinds k t (fitsRead kinds k (payloadOf (decoded run))) (go (judge kinds k t (fitsRead kinds k (payloadOf (decoded run)))) (rw was-open at e))
+    where
+      go : (j : Judged) → unless j (O.Body k t n) ≡ O.Body k t n → j ≡ J.Good
+      go J.Good f = refl
+      go (J.Refused r) f = absurd (let z : _≡_ {A = ℕ} 0 1 = cc in omega arith)
+
+  -- and its payload has the length that was said
+  pub payload-long : length (payloadOf (decoded run)) ≡ n
+  payload-long =
+      let o = opens-facts run (length d) was-open in
+      rw length-take (rw length-drop (omega (arith, o .long)))

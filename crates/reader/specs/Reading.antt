@@ -1,0 +1,50 @@
+-- What reading a message answers, and what it leaves of the lent memory: 01 "Numbers that come back", in its order 6 (source), 4, 5, 6 (body), 7, 8, 9, 10.
+-- Assumes nothing.
+use Prim.Native.Nat.{ℕ}
+use mathlib.Core.List.{List, []}
+use lib.ListN.{length}
+use Rattle.numbers.specs.Numbers.{TAKEN}
+use Rattle.numbers.specs.Refusals.{refusalNumber}
+use Rattle.cobs.specs.Decoding.{decoded}
+use Rattle.frame.specs.Body.{payloadOf}
+use Rattle.frame.specs.Reading.{openAnswer, opens}
+use Rattle.frame.specs.declared.Opened.{Opened}
+use Rattle.frame.specs.declared.Opened.the-variants as O
+use Rattle.verdict.specs.Judging.{fitsRead, judge}
+use Rattle.verdict.specs.declared.Kinds.{Kinds}
+use Rattle.verdict.specs.declared.Judged.{Judged}
+use Rattle.verdict.specs.declared.Judged.the-variants as J
+
+-- a body that was opened, or why it is refused all the same
+abbrev pub unless : Judged → Opened → Opened
+unless J.Good opened = opened
+unless (J.Refused r) opened = O.Refused r
+
+abbrev pub sifted : Kinds → List ℕ → Opened → Opened
+sifted kinds b (O.Body kind tag n) = unless (judge kinds kind tag (fitsRead kinds kind (payloadOf b))) (O.Body kind tag n)
+sifted kinds b (O.Refused r) = O.Refused r
+
+-- reading a run into so much room
+unfoldable pub receiveAnswer : Kinds → List ℕ → ℕ → Opened
+receiveAnswer kinds run room = sifted kinds (decoded run) (openAnswer run room)
+
+-- the lent memory afterwards: the body, or all as it was
+unfoldable pub receiveLeft : Kinds → List ℕ → List ℕ → List ℕ
+receiveLeft kinds run d = opens (receiveAnswer kinds run (length d)) run d
+
+-- What comes back one by one. A refused read hands back an empty part, and of type and tag what stood there.
+abbrev pub numberOf : Opened → ℕ
+numberOf (O.Body kind tag n) = TAKEN
+numberOf (O.Refused r) = refusalNumber r
+
+abbrev pub kindBy : Opened → ℕ → ℕ
+kindBy (O.Body kind tag n) old = kind
+kindBy (O.Refused r) old = old
+
+abbrev pub tagBy : Opened → ℕ → ℕ
+tagBy (O.Body kind tag n) old = tag
+tagBy (O.Refused r) old = old
+
+abbrev pub partBy : Opened → List ℕ → List ℕ
+partBy (O.Body kind tag n) b = payloadOf b
+partBy (O.Refused r) b = []

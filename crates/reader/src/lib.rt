@@ -1,0 +1,65 @@
+// Messages read from frames: 01 "Numbers that come back". The host reads answers, the device reads
+// commands.
+ghost use mathlib.Core.Path.{_≡_};
+ghost use lib.ListN.{length};
+ghost use Rattle.cobs.specs.Decoding.{decoded};
+ghost use Rattle.reader.specs.Reading.{receiveAnswer, receiveLeft, numberOf, kindBy, tagBy, partBy};
+use cobs::ENCODED_MAX;
+use frame::OVERHEAD;
+use frame::Opened;
+use frame::PAYLOAD;
+use numbers::TAKEN;
+use verdict::Judged;
+use verdict::Kinds;
+
+// Reads a run, a frame without its zero, into lent memory. A refusal leaves every byte of it.
+pub fn receive(kinds: Kinds, run: &[u8], dst: &mut [u8]) -> Opened
+    ensures { λ r. ⌜ r ≡ receiveAnswer kinds (now (run .entry)) (length (now (dst .entry))) ⌝ }
+    ensures { λ r. ⌜ now (dst .exit) ≡ receiveLeft kinds (now (run .entry)) (now (dst .entry)) ⌝ }
+{
+    let mut memory = [0u8; ENCODED_MAX];
+    let opened = frame::unpack(run, dst.len(), &mut memory);
+    let Opened::Body { kind, tag, len } = opened else {
+        return opened;
+    };
+    let fits = verdict::fits_read(kinds, kind, &memory[PAYLOAD..PAYLOAD + len]);
+    if let Judged::Refused(r) = verdict::judge(kinds, kind, tag, fits) {
+        return Opened::Refused(r);
+    }
+    buffer::copy(&memory[..len + OVERHEAD], dst, 0);
+    Opened::Body { kind, tag, len }
+}
+
+// Reads a run into lent memory, and hands back the payload as a part of that memory. The number,
+// the type and the tag come back beside it; a refusal hands back an empty part and leaves type and
+// tag.
+pub fn read<'a>(
+    kinds: Kinds,
+    run: &[u8],
+    dst: &'a mut [u8],
+    number: &mut u8,
+    kind: &mut u8,
+    tag: &mut u16,
+) -> &'a mut [u8]
+    ensures { λ r. ⌜ now r ≡ partBy (receiveAnswer kinds (now (run .entry)) (length (now (dst .entry)))) (decoded (now (run .entry))) ⌝ }
+    ensures { λ r. ⌜ now (number .exit) ≡ numberOf (receiveAnswer kinds (now (run .entry)) (length (now (dst .entry)))) ⌝ }
+    ensures { λ r. ⌜ now (kind .exit) ≡ kindBy (receiveAnswer kinds (now (run .entry)) (length (now (dst .entry)))) (now (kind .entry)) ⌝ }
+    ensures { λ r. ⌜ now (tag .exit) ≡ tagBy (receiveAnswer kinds (now (run .entry)) (length (now (dst .entry)))) (now (tag .entry)) ⌝ }
+{
+    match receive(kinds, run, dst) {
+        Opened::Body {
+            kind: k,
+            tag: t,
+            len,
+        } => {
+            *number = TAKEN;
+            *kind = k;
+            *tag = t;
+            &mut dst[PAYLOAD..PAYLOAD + len]
+        }
+        Opened::Refused(r) => {
+            *number = numbers::refusal_number(r);
+            &mut dst[..0]
+        }
+    }
+}

@@ -1,0 +1,83 @@
+// The verdict on a message: 01 "Numbers that come back", 8 to 10.
+ghost use mathlib.Core.Path.{_≡_};
+ghost use Rattle.verdict.specs.Judging.{has, formOf, fitsRead, fitsWritten, judge};
+use form::Form;
+use kind::Name;
+use numbers::Refusal;
+
+// Which types a reader or a writer has.
+pub enum Kinds {
+    // The six commands.
+    Commands,
+    // The four answers, with an OK as that to the command of this name.
+    Answers(Name),
+    // One of the answers alone.
+    Rx,
+    TxDone,
+}
+
+// The verdict on a message.
+pub enum Judged {
+    Good,
+    Refused(Refusal),
+}
+
+// The verdict on a message whose payload fits or not: TAG, TYPE, FORM.
+pub fn judge(kinds: Kinds, kind: u8, tag: u16, fits: bool) -> Judged
+    ensures { λ r. ⌜ r ≡ judge kinds kind tag fits ⌝ }
+{
+    if kind::tag_wrong(kind, tag) {
+        return Judged::Refused(Refusal::Tag);
+    }
+    if has(kinds, kind) {
+        if fits {
+            return Judged::Good;
+        }
+        return Judged::Refused(Refusal::Form);
+    }
+    Judged::Refused(Refusal::Type)
+}
+
+// Whether a type is one of these.
+fn has(kinds: Kinds, kind: u8) -> bool
+    ensures { λ r. ⌜ r ≡ has kinds kind ⌝ }
+{
+    match kinds {
+        Kinds::Commands => kind::is_command(kind),
+        Kinds::Answers(_) => kind::is_answer(kind),
+        Kinds::Rx => kind == kind::RX,
+        Kinds::TxDone => kind == kind::TX_DONE,
+    }
+}
+
+// The form of a payload of some type.
+fn form_of(kinds: Kinds, kind: u8, payload: &[u8]) -> Form
+    ensures { λ r. ⌜ r ≡ formOf kinds kind (now (payload .entry)) ⌝ }
+{
+    match kinds {
+        Kinds::Commands => command::command_form(kind, payload),
+        Kinds::Answers(name) => answer::answer_form(kind, name, payload),
+        Kinds::Rx => answer::answer_form(kind, Name::Ping, payload),
+        Kinds::TxDone => answer::answer_form(kind, Name::Ping, payload),
+    }
+}
+
+// Whether a payload is read as one of some type.
+pub fn fits_read(kinds: Kinds, kind: u8, payload: &[u8]) -> bool
+    ensures { λ r. ⌜ r ≡ fitsRead kinds kind (now (payload .entry)) ⌝ }
+{
+    let form = form_of(kinds, kind, payload);
+    match kinds {
+        Kinds::Commands => form::exactly(form, payload.len()),
+        Kinds::Answers(_) => form::at_least(form, payload.len()),
+        Kinds::Rx => form::at_least(form, payload.len()),
+        Kinds::TxDone => form::at_least(form, payload.len()),
+    }
+}
+
+// Whether a payload is written as one of some type.
+pub fn fits_written(kinds: Kinds, kind: u8, payload: &[u8]) -> bool
+    ensures { λ r. ⌜ r ≡ fitsWritten kinds kind (now (payload .entry)) ⌝ }
+{
+    form::exactly(form_of(kinds, kind, payload), payload.len())
+}

@@ -1,0 +1,52 @@
+-- By the verdict.
+-- Assumes nothing.
+use mathlib.Core.Path.{sym, _∙_}
+use Rattle.writer.proofs.Steps.{no-body, as-body}
+use borrow.Author.Needs.{needs}
+use Rattle.writer.proofs.build.Statement.{statement}
+use Rattle.writer.proofs.build.Tie as tie
+
+fits-written-requires : tie.Need-fits-written-requires
+fits-written-requires c κs = search needs
+
+judge-requires : tie.Need-judge-requires
+judge-requires c κs = search needs
+
+enum-told : tie.Need-enum-told
+enum-told c = search needs
+
+build-requires : tie.Need-build-requires
+build-requires c κs = search needs
+
+enum-known-r : tie.Need-enum-known-r
+enum-known-r c = search needs
+
+same-length : tie.Need-same-length
+same-length c = search needs
+
+returns : tie.Need-returns
+returns c =
+    let s = c .before .before .before .before .before .before .before .before .before .before .args in
+    let j = sym (rw (c .before .before .before .before .before .before .before .fits-written .ensures) at (c .before .before .before .before .before .before .judge .ensures)) ∙ c .before .before .before .before .enum-told .given .1 in
+    let a = as-body (s .kinds) (s .kind) (s .tag) (s .payload .now) (s .dst .now) j in
+    (c .before .before .build .ensures .0 ∙ sym (a .0), c .before .before .build .ensures .1 ∙ sym (a .1))
+
+returns-2 : tie.Need-returns-2
+returns-2 c =
+    let s = c .before .before .before .before .before .before .before .args in
+    let j = sym (rw (c .before .before .before .before .fits-written .ensures) at (c .before .before .before .judge .ensures)) ∙ c .before .r .given .1 in
+    let a = no-body (s .kinds) (s .kind) (s .tag) (s .payload .now) (s .dst .now) j in
+    (sym (a .0), sym (a .1))
+
+pub build-spec : {M : Type 1} → statement M
+build-spec =
+    tie.close
+    (tie.spec
+    fits-written-requires
+    judge-requires
+    enum-told
+    build-requires
+    enum-known-r
+    same-length
+    returns
+    returns-2)

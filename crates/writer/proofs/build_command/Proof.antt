@@ -1,0 +1,75 @@
+-- Bytes that are too long for any message have no right form; else the payload is put together, and written as any payload.
+-- Assumes nothing.
+use mathlib.Core.Path.{_≡_, sym, _∙_}
+use native.Mathlib.Omega.{arith}
+use lib.ListN.{take, replicate}
+use lib.Seq.{length-take-le}
+use Rattle.frame.proofs.Laws.{take-laid}
+use Rattle.command.specs.Commands.{commandBytes, commandKind}
+use Rattle.command.proofs.Laws.{command-is, command-length, command-long}
+use Rattle.verdict.specs.Judging.{has, formOf, fitsWritten}
+use Rattle.verdict.specs.declared.Kinds.the-variants as K
+use Rattle.writer.proofs.Steps.{wrong-body}
+use borrow.Author.Needs.{needs}
+use Rattle.writer.proofs.build_command.Statement.{statement}
+use Rattle.writer.proofs.build_command.Tie as tie
+
+command-kind-requires : tie.Need-command-kind-requires
+command-kind-requires c κs = search needs
+
+too-long-requires : tie.Need-too-long-requires
+too-long-requires c κs = search needs
+
+returns : tie.Need-returns
+unfolding has formOf fitsWritten
+returns c =
+    let s = c .before .before .before .before .before .args in
+    let l = wrong-body K.Commands (commandKind (s .c)) (s .tag) (commandBytes (s .c) (s .bytes .now)) (s .dst .now) (command-is (s .c)) (command-long (s .c) (s .bytes .now) (c .before .if1 .taken)) in
+    (rw (c .before .before .command-kind .ensures) at (c .too-long .ensures) ∙ l .0, l .1)
+
+slice-aggregate-put-command : tie.Need-slice-aggregate-put-command
+slice-aggregate-put-command c = search needs
+
+put-command-requires : tie.Need-put-command-requires
+put-command-requires c κs =
+    let s = c .before .before .before .before .before .args in
+    omega (arith, command-length (s .c) (s .bytes .now) .0, c .before .if1 .left)
+
+array-share-prefix-memory : tie.Need-array-share-prefix-memory
+array-share-prefix-memory c =
+    let s = c .before .before .before .before .before .before .before .args in
+    rw (c .before .put-command .kept .1 .1 .0, c .before .put-command .ensures .0) (omega (arith, command-length (s .c) (s .bytes .now) .0, c .before .before .before .if1 .left))
+
+slice-aggregate-build : tie.Need-slice-aggregate-build
+slice-aggregate-build c =
+    let s = c .before .before .before .before .before .before .before .before .args in
+    let w = c .before .before .put-command in
+    sym (length-take-le (w .result) (w .last .1 .1 .0) (rw (w .kept .1 .1 .0, w .ensures .0) (omega (arith, command-length (s .c) (s .bytes .now) .0, c .before .before .before .before .if1 .left))))
+
+build-requires : tie.Need-build-requires
+build-requires c κs = search needs
+
+same-length : tie.Need-same-length
+same-length c = search needs
+
+returns-2 : tie.Need-returns-2
+returns-2 c =
+    let s = c .before .before .before .before .before .before .before .before .before .before .before .before .args in
+    let w = c .before .before .before .before .before .before .put-command in
+    let p : take (w .result) (w .last .1 .1 .0) ≡ commandBytes (s .c) (s .bytes .now) = rw (w .ensures .0, w .ensures .1) (take-laid (commandBytes (s .c) (s .bytes .now)) (replicate 292 0)) in
+    rw (c .before .before .before .before .before .before .before .before .before .command-kind .ensures, p) at (c .before .before .build .ensures)
+
+pub build-command-spec : {M : Type 1} → statement M
+build-command-spec =
+    tie.close
+    (tie.spec
+    command-kind-requires
+    too-long-requires
+    returns
+    slice-aggregate-put-command
+    put-command-requires
+    array-share-prefix-memory
+    slice-aggregate-build
+    build-requires
+    same-length
+    returns-2)

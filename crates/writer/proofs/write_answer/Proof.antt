@@ -1,0 +1,79 @@
+-- Bytes that are too long for any message have no right form; else the payload is put together, and written as any payload.
+-- Assumes nothing.
+use mathlib.Core.Path.{_≡_, sym, _∙_}
+use native.Mathlib.Omega.{arith}
+use lib.ListN.{take, replicate}
+use lib.Seq.{length-take-le}
+use Rattle.frame.proofs.Laws.{take-laid}
+use Rattle.answer.specs.Answers.{answerBytes, answerKind, answerName}
+use Rattle.answer.proofs.Laws.{answer-is, answer-length, answer-long}
+use Rattle.verdict.specs.Judging.{has, formOf, fitsWritten}
+use Rattle.verdict.specs.declared.Kinds.the-variants as K
+use Rattle.writer.proofs.Steps.{wrong-frame}
+use borrow.Author.Needs.{needs}
+use Rattle.writer.proofs.write_answer.Statement.{statement}
+use Rattle.writer.proofs.write_answer.Tie as tie
+
+answer-kind-requires : tie.Need-answer-kind-requires
+answer-kind-requires c κs = search needs
+
+too-long-requires : tie.Need-too-long-requires
+too-long-requires c κs = search needs
+
+returns : tie.Need-returns
+unfolding has formOf fitsWritten
+returns c =
+    let s = c .before .before .before .before .before .args in
+    let l = wrong-frame (K.Answers (answerName (s .a))) (answerKind (s .a)) (s .tag) (answerBytes (s .a) (s .bytes .now)) (s .dst .now) (answer-is (s .a)) (answer-long (s .a) (s .bytes .now) (c .before .if1 .taken)) in
+    (rw (c .before .before .answer-kind .ensures) at (c .too-long .ensures) ∙ l .0, l .1)
+
+answer-name-requires : tie.Need-answer-name-requires
+answer-name-requires c κs = search needs
+
+slice-aggregate-put-answer : tie.Need-slice-aggregate-put-answer
+slice-aggregate-put-answer c = search needs
+
+put-answer-requires : tie.Need-put-answer-requires
+put-answer-requires c κs =
+    let s = c .before .before .before .before .before .before .args in
+    omega (arith, answer-length (s .a) (s .bytes .now) .0, c .before .before .if1 .left)
+
+array-share-prefix-memory : tie.Need-array-share-prefix-memory
+array-share-prefix-memory c =
+    let s = c .before .before .before .before .before .before .before .before .args in
+    rw (c .before .put-answer .kept .1 .1 .0, c .before .put-answer .ensures .0) (omega (arith, answer-length (s .a) (s .bytes .now) .0, c .before .before .before .before .if1 .left))
+
+slice-aggregate-write : tie.Need-slice-aggregate-write
+slice-aggregate-write c =
+    let s = c .before .before .before .before .before .before .before .before .before .args in
+    let w = c .before .before .put-answer in
+    sym (length-take-le (w .result) (w .last .1 .1 .0) (rw (w .kept .1 .1 .0, w .ensures .0) (omega (arith, answer-length (s .a) (s .bytes .now) .0, c .before .before .before .before .before .if1 .left))))
+
+write-requires : tie.Need-write-requires
+write-requires c κs = search needs
+
+same-length : tie.Need-same-length
+same-length c = search needs
+
+returns-2 : tie.Need-returns-2
+returns-2 c =
+    let s = c .before .before .before .before .before .before .before .before .before .before .before .before .before .args in
+    let w = c .before .before .before .before .before .before .put-answer in
+    let p : take (w .result) (w .last .1 .1 .0) ≡ answerBytes (s .a) (s .bytes .now) = rw (w .ensures .0, w .ensures .1) (take-laid (answerBytes (s .a) (s .bytes .now)) (replicate 292 0)) in
+    rw (c .before .before .before .before .before .before .before .before .answer-name .ensures, c .before .before .before .before .before .before .before .before .before .before .answer-kind .ensures, p) at (c .before .before .write .ensures)
+
+pub write-answer-spec : {M : Type 1} → statement M
+write-answer-spec =
+    tie.close
+    (tie.spec
+    answer-kind-requires
+    too-long-requires
+    returns
+    answer-name-requires
+    slice-aggregate-put-answer
+    put-answer-requires
+    array-share-prefix-memory
+    slice-aggregate-write
+    write-requires
+    same-length
+    returns-2)
