@@ -1,13 +1,9 @@
--- The listing of a capture: 01 "Sheet of known values", its last part, in the order of its columns.
--- A capture is bytes from the wire. A zero ends a run; the bytes before it are the run.
+-- A line of a listing: 01 "Sheet of known values", its last part, in the order of its columns.
 -- Assumes nothing.
-use Prim.Native.Nat.{ℕ, zero, suc, _+_, _-_, _/_, _%_}
+use Prim.Native.Nat.{ℕ, _/_, _%_}
 use mathlib.Core.Bool.{cond}
 use mathlib.Core.List.{List, [], _∷_, _++_}
-use lib.Dec.{ltb, eqb}
-use lib.ListN.{length}
-use Rattle.cobs.specs.Answers.{encodedMax}
-use Rattle.frame.specs.Reading.{openAnswer}
+use lib.Dec.{eqb}
 use Rattle.frame.specs.declared.Opened.{Opened}
 use Rattle.frame.specs.declared.Opened.the-variants as O
 use Rattle.kind.specs.Kinds.{PING, GET-INFO, SET-CONFIG, TX, RX-START, RX-STOP, OK, ERR, RX, TX-DONE}
@@ -21,8 +17,9 @@ hex4 n = digit (n / 4096) ∷ digit (n / 256 % 16) ∷ digit (n / 16 % 16) ∷ d
 
 -- ---- the columns, of a run with what opening it answers
 
-unfoldable pub heading : List ℕ
-heading = text "at type tag len\n"
+-- the names in rows of ten letters, as the code has them
+abbrev pub names : List ℕ
+names = text "PING      GET_INFO  SET_CONFIGTX        RX_START  RX_STOP   OK        ERR       RX        TX_DONE   ?         "
 
 -- the name of a type, `?` if it is none of the ten
 unfoldable pub name : ℕ → List ℕ
@@ -62,21 +59,6 @@ lastColumn len = text " " ++ (decimal len ++ text "\n")
 unfoldable pub line : ℕ → Opened → ℕ → List ℕ
 line at o n = decimal at ++ (text " " ++ (typeColumn o ++ (text " " ++ (tagColumn o ++ lastColumn (lenColumn o n)))))
 
--- ---- the listing
-
--- the line of a whole run; an empty run has none
-unfoldable pub lineOf : ℕ → List ℕ → List ℕ
-lineOf at [] = []
-lineOf at (b ∷ bs) = line at (openAnswer (b ∷ bs) encodedMax) (length (b ∷ bs))
-
--- The lines of the runs in some bytes, where a run began at an offset before them and has these bytes so far.
--- A zero ends it, and the next one begins past the zero; any other byte joins it. A run that no zero ends has no line.
-unfoldable pub lines : ℕ → List ℕ → List ℕ → List ℕ
-lines at run [] = []
-lines at run (b ∷ bs) =
-    lineOf at (cond (eqb b 0) run [])
-    ++ lines (cond (eqb b 0) (at + length run + 1) at) (cond (eqb b 0) [] (run ++ (b ∷ []))) bs
-
--- what is printed for a capture
-unfoldable pub listing : List ℕ → List ℕ
-listing capture = heading ++ lines 0 [] capture
+-- the longest line: 20 digits, a space, 10 letters, a space, 4 digits, a space, 20 digits and the line end
+abbrev pub lineMax : ℕ
+lineMax = 58

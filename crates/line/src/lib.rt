@@ -1,13 +1,9 @@
-// The listing of a capture, piece by piece: 01 "Sheet of known values", its last part.
+// A line of a listing: 01 "Sheet of known values", its last part.
 ghost use mathlib.Core.Path.{_≡_};
-ghost use Prim.Native.Nat.{_+_, _*_, _≤_, _<_, _^_};
-ghost use lib.ListN.{length};
+ghost use Prim.Native.Nat.{_+_, _≤_};
+ghost use lib.ListN.{length, take, drop};
 ghost use Rattle.buffer.specs.Lay.{lay};
-ghost use Rattle.cobs.specs.Answers.{encodedMax};
-ghost use Rattle.text.specs.Text.{digit};
-ghost use Rattle.line.specs.Lines.{hex4, heading, name, lastColumn, line};
-ghost use Rattle.line.specs.Stream.{lineMax, keep, openRun, lineRun, placeOf, after, adds, started, fed};
-use cobs::ENCODED_MAX;
+ghost use Rattle.line.specs.Lines.{hex4, names, name, lastColumn, line};
 use frame::Opened;
 use kind::ERR;
 use kind::GET_INFO;
@@ -19,34 +15,18 @@ use kind::RX_STOP;
 use kind::SET_CONFIG;
 use kind::TX;
 use kind::TX_DONE;
-use numbers::Refusal;
 
 // The longest line: 20 digits, a space, 10 letters, a space, 4 digits, a space, 20 digits and the
 // line end.
 pub const LINE_MAX: usize = 58;
-// How many bytes of a run are kept: a longer run is no frame.
-pub const RUN_MAX: usize = ENCODED_MAX;
+// The names of the types, in rows of ten letters, and `?` for any other.
+const NAMES: [u8; 110] =
+    *b"PING      GET_INFO  SET_CONFIGTX        RX_START  RX_STOP   OK        ERR       RX        TX_DONE   ?         ";
 
-// Where a capture stands between two pieces.
-pub struct Stream {
-    // The offset of the run's first byte.
-    pub at: u64,
-    // How long the run is so far.
-    pub len: u64,
-    // How much of the output is filled.
-    pub filled: usize,
-}
-
-// One hexadecimal digit, in upper case.
-fn digit(d: u16) -> u8
-    requires { ⌜ d < 16 ⌝ }
-    ensures { λ r. ⌜ r ≡ digit d ⌝ }
-{
-    if d < 10 {
-        b'0' + d as u8
-    } else {
-        b'A' + (d - 10) as u8
-    }
+// Where a name stands in NAMES.
+struct Part {
+    at: usize,
+    n: usize,
 }
 
 // Writes a tag as four hexadecimal digits.
@@ -55,13 +35,28 @@ fn hex4(n: u16, dst: &mut [u8], from: usize) -> usize
     ensures { λ r. ⌜ r ≡ from + length (hex4 n) ⌝ }
     ensures { λ r. ⌜ now (dst .exit) ≡ lay from (hex4 n) (now (dst .entry)) ⌝ }
 {
-    let text = [
-        digit(n / 4096),
-        digit(n / 256 % 16),
-        digit(n / 16 % 16),
-        digit(n % 16),
-    ];
-    text::put(&text, dst, from)
+    let bytes = [(n / 256) as u8, (n % 256) as u8];
+    text::hex(&bytes, dst, from)
+}
+
+// Where the name of a type stands in NAMES.
+fn part_of(kind: u8) -> Part
+    ensures { λ r. ⌜ r .at + r .n ≤ length names ⌝ }
+    ensures { λ r. ⌜ take (r .n) (drop (r .at) names) ≡ name kind ⌝ }
+{
+    match kind {
+        PING => Part { at: 0, n: 4 },
+        GET_INFO => Part { at: 10, n: 8 },
+        SET_CONFIG => Part { at: 20, n: 10 },
+        TX => Part { at: 30, n: 2 },
+        RX_START => Part { at: 40, n: 8 },
+        RX_STOP => Part { at: 50, n: 7 },
+        OK => Part { at: 60, n: 2 },
+        ERR => Part { at: 70, n: 3 },
+        RX => Part { at: 80, n: 2 },
+        TX_DONE => Part { at: 90, n: 7 },
+        _ => Part { at: 100, n: 1 },
+    }
 }
 
 // Writes the name of a type.
@@ -70,19 +65,11 @@ fn name(kind: u8, dst: &mut [u8], from: usize) -> usize
     ensures { λ r. ⌜ r ≡ from + length (name kind) ⌝ }
     ensures { λ r. ⌜ now (dst .exit) ≡ lay from (name kind) (now (dst .entry)) ⌝ }
 {
-    match kind {
-        PING => text::put(b"PING", dst, from),
-        GET_INFO => text::put(b"GET_INFO", dst, from),
-        SET_CONFIG => text::put(b"SET_CONFIG", dst, from),
-        TX => text::put(b"TX", dst, from),
-        RX_START => text::put(b"RX_START", dst, from),
-        RX_STOP => text::put(b"RX_STOP", dst, from),
-        OK => text::put(b"OK", dst, from),
-        ERR => text::put(b"ERR", dst, from),
-        RX => text::put(b"RX", dst, from),
-        TX_DONE => text::put(b"TX_DONE", dst, from),
-        _ => text::put(b"?", dst, from),
-    }
+    let part = part_of(kind);
+    let at = part.at;
+    let end = at + part.n;
+    let names = NAMES;
+    text::put(&names[at..end], dst, from)
 }
 
 // Writes the last column, and ends the line.
@@ -96,8 +83,9 @@ fn last_column(n: u64, dst: &mut [u8], from: usize) -> usize
     text::put(b"\n", dst, end)
 }
 
-// Writes the line of a run: its offset, what opening it answers, and its length.
-fn line(at: u64, opened: Opened, n: u64, dst: &mut [u8], from: usize) -> usize
+// Writes the line of a run: its offset, what opening it answers, and its length. A helper of the
+// crates above: they show that there is room.
+pub fn line(at: u64, opened: Opened, n: u64, dst: &mut [u8], from: usize) -> usize
     requires { ⌜ from + length (line at opened n) ≤ length (now dst) ⌝ }
     ensures { λ r. ⌜ r ≡ from + length (line at opened n) ⌝ }
     ensures { λ r. ⌜ now (dst .exit) ≡ lay from (line at opened n) (now (dst .entry)) ⌝ }
@@ -112,84 +100,4 @@ fn line(at: u64, opened: Opened, n: u64, dst: &mut [u8], from: usize) -> usize
     let next = text::put(b" ", dst, named);
     let tagged = hex4(tag, dst, next);
     last_column(len as u64, dst, tagged)
-}
-
-// Opens a run by its length and its first bytes.
-fn open_run(n: u64, run: &[u8]) -> Opened
-    requires { ⌜ encodedMax ≤ length (now run) ⌝ }
-    ensures { λ r. ⌜ r ≡ openRun n (now (run .entry)) ⌝ }
-{
-    if (RUN_MAX as u64) < n {
-        return Opened::Refused(Refusal::Length);
-    }
-    let mut memory = [0u8; ENCODED_MAX];
-    frame::unpack(&run[..n as usize], ENCODED_MAX, &mut memory)
-}
-
-// Writes the line of a run at an offset: n is its length, and run has its first bytes. An empty run
-// has none.
-fn write_line(at: u64, n: u64, run: &[u8], dst: &mut [u8], from: usize) -> usize
-    requires { ⌜ encodedMax ≤ length (now run) ⌝ }
-    requires { ⌜ from + length (lineRun at n (now run)) ≤ length (now dst) ⌝ }
-    ensures { λ r. ⌜ r ≡ from + length (lineRun at n (now (run .entry))) ⌝ }
-    ensures { λ r. ⌜ now (dst .exit) ≡ lay from (lineRun at n (now (run .entry))) (now (dst .entry)) ⌝ }
-{
-    if n == 0 {
-        return from;
-    }
-    line(at, open_run(n, run), n, dst, from)
-}
-
-// Keeps the byte b of a run that has n bytes before it, if it is among the first.
-fn keep(n: u64, b: u8, run: &mut [u8])
-    requires { ⌜ encodedMax ≤ length (now run) ⌝ }
-    ensures { λ r. ⌜ now (run .exit) ≡ keep n b (now (run .entry)) ⌝ }
-{
-    if n < (RUN_MAX as u64) {
-        run[n as usize] = b;
-    }
-}
-
-// Starts a listing: the heading is in the output. A helper of the crates above, as the next: they
-// show that there is room, and that no counter passes its end.
-pub fn start(dst: &mut [u8]) -> Stream
-    requires { ⌜ length heading ≤ length (now dst) ⌝ }
-    ensures { λ r. ⌜ r ≡ started ⌝ }
-    ensures { λ r. ⌜ now (dst .exit) ≡ lay 0 heading (now (dst .entry)) ⌝ }
-{
-    let filled = text::put(b"at type tag len\n", dst, 0);
-    Stream {
-        at: 0,
-        len: 0,
-        filled,
-    }
-}
-
-// Takes a piece of a capture, and adds the lines of the runs that end in it to the output. Between
-// two pieces run has the first bytes of the run that goes on. Before the first it may have any.
-pub fn feed(s: Stream, piece: &[u8], run: &mut [u8], dst: &mut [u8]) -> Stream
-    requires { ⌜ s .at + s .len + length (now piece) < 2 ^ 64 ⌝ }
-    requires { ⌜ encodedMax ≤ length (now run) ⌝ }
-    requires { ⌜ s .filled + lineMax * length (now piece) ≤ length (now dst) ⌝ }
-    ensures { λ r. ⌜ r ≡ fed s (now (run .entry)) (now (piece .entry)) ⌝ }
-    ensures { λ r. ⌜ now (run .exit) ≡ after (placeOf s (now (run .entry))) (now (piece .entry)) .kept ⌝ }
-    ensures { λ r. ⌜ now (dst .exit) ≡ lay (s .filled) (adds (placeOf s (now (run .entry))) (now (piece .entry))) (now (dst .entry)) ⌝ }
-{
-    let mut at = s.at;
-    let mut len = s.len;
-    let mut filled = s.filled;
-    let mut i = 0;
-    while i < piece.len() {
-        let b = piece[i];
-        i += 1;
-        if b == 0 {
-            filled = write_line(at, len, run, dst, filled);
-            at = at + len + 1;
-            len = 0;
-        } else {
-            keep(len, b, run);
-            len += 1;
-        }
-    }
-    Stream { at, len, filled }
 }

@@ -1,8 +1,8 @@
 -- What one turn of the program leaves, so that the next one can go on and the loop ends. What is read and written, no contract can say.
 -- Assumes nothing.
 use Prim.Native.Nat.{ℕ, _+_, _-_, _*_, _^_, _≤_, _<_}
-use Rattle.line.specs.Stream.{lineMax}
-use Rattle.line.specs.declared.Stream.{Stream}
+use Rattle.line.specs.Lines.{lineMax}
+use Rattle.capture.specs.declared.Stream.{Stream}
 use Rattle.listing.specs.declared.Turn.{Turn}
 use Rattle.listing.specs.declared.Turn.the-variants as T
 

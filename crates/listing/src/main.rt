@@ -1,16 +1,16 @@
 // Lists a capture of the wire, from standard input: 01 "Sheet of known values", its last part.
-// What is listed is the crate line's: here the capture is read and the output written.
+// What is listed is the crate capture's: here the capture is read and the output written.
 ghost use mathlib.Core.Path.{_≡_};
 ghost use Prim.Native.Nat.{_+_, _≤_, _<_};
 ghost use lib.ListN.{length};
 ghost use Rattle.cobs.specs.Answers.{encodedMax};
 ghost use Rattle.listing.specs.Turns.{output, full, most, Goes};
+use capture::RUN_MAX;
+use capture::Stream;
 use libc::STDERR_FILENO;
 use libc::STDIN_FILENO;
 use libc::STDOUT_FILENO;
 use line::LINE_MAX;
-use line::RUN_MAX;
-use line::Stream;
 
 // The most bytes of one read: what io::buffer has.
 const PIECE: usize = 4096;
@@ -65,7 +65,7 @@ fn list_piece(s: Stream, run: &mut [u8], out: &mut [u8]) -> Turn
         flush(out, s.filled);
         return Turn::Done;
     }
-    let t = line::feed(s, &piece[..n], run, out);
+    let t = capture::feed(s, &piece[..n], run, out);
     let filled = t.filled;
     if filled <= FULL {
         return Turn::More(t);
@@ -83,7 +83,7 @@ fn list_piece(s: Stream, run: &mut [u8], out: &mut [u8]) -> Turn
 fn main() {
     let mut run = [0u8; RUN_MAX];
     let mut out = output();
-    let mut s = line::start(&mut out);
+    let mut s = capture::start(&mut out);
     while s.at + s.len < MOST {
         let t = list_piece(s, &mut run, &mut out);
         let Turn::More(u) = t else {

@@ -1,46 +1,43 @@
--- Each digit is the definition's.
+-- The tag's two bytes have the digits that the definition takes from the tag.
 -- Assumes nothing.
+use mathlib.Core.Path.{_≡_}
+use mathlib.Core.List.{[], _∷_}
+use Prim.Native.Nat.{ℕ, _/_, _%_}
+use native.Mathlib.Omega.{arith}
+use Rattle.text.specs.Text.{hex}
 use Rattle.line.specs.Lines.{hex4}
 use borrow.Author.Needs.{needs}
 use Rattle.line.proofs.hex4.Statement.{statement}
 use Rattle.line.proofs.hex4.Tie as tie
 
-digit-requires : tie.Need-digit-requires
-digit-requires c κs = search needs
+two-bytes : (n : ℕ) → hex (n / 256 ∷ n % 256 ∷ []) ≡ hex4 n
+unfolding hex hex4
+two-bytes n =
+    let a : n / 256 / 16 ≡ n / 4096 = omega arith in
+    let b : n % 256 / 16 ≡ n / 16 % 16 = omega arith in
+    let c : n % 256 % 16 ≡ n % 16 = omega arith in
+    simp (a, b, c)
 
-digit-requires-2 : tie.Need-digit-requires-2
-digit-requires-2 c κs = search needs
+cast-t6 : tie.Need-cast-t6
+cast-t6 c = search needs
 
-digit-requires-3 : tie.Need-digit-requires-3
-digit-requires-3 c κs = search needs
+cast-t8 : tie.Need-cast-t8
+cast-t8 c = search needs
 
-digit-requires-4 : tie.Need-digit-requires-4
-digit-requires-4 c κs = search needs
+slice-aggregate-hex : tie.Need-slice-aggregate-hex
+slice-aggregate-hex c = search needs
 
-slice-aggregate-put : tie.Need-slice-aggregate-put
-slice-aggregate-put c = search needs
-
-put-requires : tie.Need-put-requires
-unfolding hex4
-put-requires c κs = c .before .before .before .before .before .before .before .pre
+hex-requires : tie.Need-hex-requires
+hex-requires c κs =
+    rw two-bytes (c .before .before .before .pre)
 
 same-length : tie.Need-same-length
 same-length c = search needs
 
 returns : tie.Need-returns
-unfolding hex4
 returns c =
-    (c .before .before .put .ensures .0, rw (c .before .before .before .before .before .before .before .before .digit .ensures, c .before .before .before .before .before .before .before .digit2 .ensures, c .before .before .before .before .before .before .digit3 .ensures, c .before .before .before .before .before .digit4 .ensures) at (c .before .before .put .ensures .1))
+    rw two-bytes at (c .before .before .hex .ensures)
 
 pub hex4-spec : {M : Type 1} → statement M
 hex4-spec =
-    tie.close
-    (tie.spec
-    digit-requires
-    digit-requires-2
-    digit-requires-3
-    digit-requires-4
-    slice-aggregate-put
-    put-requires
-    same-length
-    returns)
+    tie.close (tie.spec cast-t6 cast-t8 slice-aggregate-hex hex-requires same-length returns)

@@ -1,212 +1,54 @@
--- In each arm the type is known, and the text is the definition's.
+-- The row's letters are put.
 -- Assumes nothing.
-use Rattle.line.proofs.Names.{unknown}
-use Rattle.line.specs.Lines.{name}
+use mathlib.Core.Path.{_≡_}
+use Prim.Native.Nat.{ℕ, _+_, _-_}
+use native.Mathlib.Omega.{arith}
+use lib.ListN.{take, drop}
+use Rattle.line.specs.Lines.{names, name}
 use borrow.Author.Needs.{needs}
 use Rattle.line.proofs.name.Statement.{statement}
 use Rattle.line.proofs.name.Tie as tie
 
-slice-aggregate-put : tie.Need-slice-aggregate-put
-slice-aggregate-put c = search needs
+in-row : (at n kind : ℕ) → take n (drop at names) ≡ name kind → take (at + n - at) (drop at names) ≡ name kind
+in-row at n kind e =
+    let m : at + n - at ≡ n = omega arith in
+    rw m e
+
+part-of-requires : tie.Need-part-of-requires
+part-of-requires c κs = search needs
+
+add-end : tie.Need-add-end
+add-end c = search needs
+
+sub-put : tie.Need-sub-put
+sub-put c = search needs
+
+part-put-start : tie.Need-part-put-start
+part-put-start c = search needs
+
+part-put-end : tie.Need-part-put-end
+part-put-end c = search needs
 
 put-requires : tie.Need-put-requires
-unfolding name
-put-requires c κs = rw (c .before .before .match .keys1) at (c .before .before .before .before .pre)
-
-slice-aggregate-put-2 : tie.Need-slice-aggregate-put-2
-slice-aggregate-put-2 c = search needs
-
-put-requires-2 : tie.Need-put-requires-2
-unfolding name
-put-requires-2 c κs = rw (c .before .before .match .keys2) at (c .before .before .before .before .pre)
-
-slice-aggregate-put-3 : tie.Need-slice-aggregate-put-3
-slice-aggregate-put-3 c = search needs
-
-put-requires-3 : tie.Need-put-requires-3
-unfolding name
-put-requires-3 c κs = rw (c .before .before .match .keys3) at (c .before .before .before .before .pre)
-
-slice-aggregate-put-4 : tie.Need-slice-aggregate-put-4
-slice-aggregate-put-4 c = search needs
-
-put-requires-4 : tie.Need-put-requires-4
-unfolding name
-put-requires-4 c κs = rw (c .before .before .match .keys4) at (c .before .before .before .before .pre)
-
-slice-aggregate-put-5 : tie.Need-slice-aggregate-put-5
-slice-aggregate-put-5 c = search needs
-
-put-requires-5 : tie.Need-put-requires-5
-unfolding name
-put-requires-5 c κs = rw (c .before .before .match .keys5) at (c .before .before .before .before .pre)
-
-slice-aggregate-put-6 : tie.Need-slice-aggregate-put-6
-slice-aggregate-put-6 c = search needs
-
-put-requires-6 : tie.Need-put-requires-6
-unfolding name
-put-requires-6 c κs = rw (c .before .before .match .keys6) at (c .before .before .before .before .pre)
-
-slice-aggregate-put-7 : tie.Need-slice-aggregate-put-7
-slice-aggregate-put-7 c = search needs
-
-put-requires-7 : tie.Need-put-requires-7
-unfolding name
-put-requires-7 c κs = rw (c .before .before .match .keys7) at (c .before .before .before .before .pre)
-
-slice-aggregate-put-8 : tie.Need-slice-aggregate-put-8
-slice-aggregate-put-8 c = search needs
-
-put-requires-8 : tie.Need-put-requires-8
-unfolding name
-put-requires-8 c κs = rw (c .before .before .match .keys8) at (c .before .before .before .before .pre)
-
-slice-aggregate-put-9 : tie.Need-slice-aggregate-put-9
-slice-aggregate-put-9 c = search needs
-
-put-requires-9 : tie.Need-put-requires-9
-unfolding name
-put-requires-9 c κs = rw (c .before .before .match .keys9) at (c .before .before .before .before .pre)
-
-slice-aggregate-put-10 : tie.Need-slice-aggregate-put-10
-slice-aggregate-put-10 c = search needs
-
-put-requires-10 : tie.Need-put-requires-10
-unfolding name
-put-requires-10 c κs = rw (c .before .before .match .keys10) at (c .before .before .before .before .pre)
-
-slice-aggregate-put-11 : tie.Need-slice-aggregate-put-11
-slice-aggregate-put-11 c = search needs
-
-put-requires-11 : tie.Need-put-requires-11
-put-requires-11 c κs =
-    let r = c .before .before .match .rest in
-    rw (unknown _ (r .0 .0 .0 .0 .0 .0 .0 .0 .0 .1) (r .0 .0 .0 .0 .0 .0 .0 .0 .1) (r .0 .0 .0 .0 .0 .0 .0 .1) (r .0 .0 .0 .0 .0 .0 .1) (r .0 .0 .0 .0 .0 .1) (r .0 .0 .0 .0 .1) (r .0 .0 .0 .1) (r .0 .0 .1) (r .0 .1) (r .1)) at (c .before .before .before .before .pre)
+put-requires c κs =
+    rw (in-row _ _ _ (c .before .before .before .before .part-of .ensures .1)) (c .before .before .before .before .before .before .pre)
 
 same-length : tie.Need-same-length
 same-length c = search needs
 
 returns : tie.Need-returns
-unfolding name
-returns c = rw (c .before .before .before .before .before .match .keys1) (c .before .before .put .ensures)
-
-same-length-2 : tie.Need-same-length-2
-same-length-2 c = search needs
-
-returns-2 : tie.Need-returns-2
-unfolding name
-returns-2 c = rw (c .before .before .before .before .before .match .keys2) (c .before .before .put2 .ensures)
-
-same-length-3 : tie.Need-same-length-3
-same-length-3 c = search needs
-
-returns-3 : tie.Need-returns-3
-unfolding name
-returns-3 c = rw (c .before .before .before .before .before .match .keys3) (c .before .before .put3 .ensures)
-
-same-length-4 : tie.Need-same-length-4
-same-length-4 c = search needs
-
-returns-4 : tie.Need-returns-4
-unfolding name
-returns-4 c = rw (c .before .before .before .before .before .match .keys4) (c .before .before .put4 .ensures)
-
-same-length-5 : tie.Need-same-length-5
-same-length-5 c = search needs
-
-returns-5 : tie.Need-returns-5
-unfolding name
-returns-5 c = rw (c .before .before .before .before .before .match .keys5) (c .before .before .put5 .ensures)
-
-same-length-6 : tie.Need-same-length-6
-same-length-6 c = search needs
-
-returns-6 : tie.Need-returns-6
-unfolding name
-returns-6 c = rw (c .before .before .before .before .before .match .keys6) (c .before .before .put6 .ensures)
-
-same-length-7 : tie.Need-same-length-7
-same-length-7 c = search needs
-
-returns-7 : tie.Need-returns-7
-unfolding name
-returns-7 c = rw (c .before .before .before .before .before .match .keys7) (c .before .before .put7 .ensures)
-
-same-length-8 : tie.Need-same-length-8
-same-length-8 c = search needs
-
-returns-8 : tie.Need-returns-8
-unfolding name
-returns-8 c = rw (c .before .before .before .before .before .match .keys8) (c .before .before .put8 .ensures)
-
-same-length-9 : tie.Need-same-length-9
-same-length-9 c = search needs
-
-returns-9 : tie.Need-returns-9
-unfolding name
-returns-9 c = rw (c .before .before .before .before .before .match .keys9) (c .before .before .put9 .ensures)
-
-same-length-10 : tie.Need-same-length-10
-same-length-10 c = search needs
-
-returns-10 : tie.Need-returns-10
-unfolding name
-returns-10 c = rw (c .before .before .before .before .before .match .keys10) (c .before .before .put10 .ensures)
-
-same-length-11 : tie.Need-same-length-11
-same-length-11 c = search needs
-
-returns-11 : tie.Need-returns-11
-returns-11 c =
-    let r = c .before .before .before .before .before .match .rest in
-    rw (unknown _ (r .0 .0 .0 .0 .0 .0 .0 .0 .0 .1) (r .0 .0 .0 .0 .0 .0 .0 .0 .1) (r .0 .0 .0 .0 .0 .0 .0 .1) (r .0 .0 .0 .0 .0 .0 .1) (r .0 .0 .0 .0 .0 .1) (r .0 .0 .0 .0 .1) (r .0 .0 .0 .1) (r .0 .0 .1) (r .0 .1) (r .1)) (c .before .before .put11 .ensures)
+returns c =
+    rw (in-row _ _ _ (c .before .before .before .before .before .before .before .part-of .ensures .1)) at (c .before .before .put .ensures)
 
 pub name-spec : {M : Type 1} → statement M
 name-spec =
     tie.close
     (tie.spec
-    slice-aggregate-put
+    part-of-requires
+    add-end
+    sub-put
+    part-put-start
+    part-put-end
     put-requires
-    slice-aggregate-put-2
-    put-requires-2
-    slice-aggregate-put-3
-    put-requires-3
-    slice-aggregate-put-4
-    put-requires-4
-    slice-aggregate-put-5
-    put-requires-5
-    slice-aggregate-put-6
-    put-requires-6
-    slice-aggregate-put-7
-    put-requires-7
-    slice-aggregate-put-8
-    put-requires-8
-    slice-aggregate-put-9
-    put-requires-9
-    slice-aggregate-put-10
-    put-requires-10
-    slice-aggregate-put-11
-    put-requires-11
     same-length
-    returns
-    same-length-2
-    returns-2
-    same-length-3
-    returns-3
-    same-length-4
-    returns-4
-    same-length-5
-    returns-5
-    same-length-6
-    returns-6
-    same-length-7
-    returns-7
-    same-length-8
-    returns-8
-    same-length-9
-    returns-9
-    same-length-10
-    returns-10
-    same-length-11
-    returns-11)
+    returns)

@@ -1,7 +1,7 @@
 -- What `feed` answers counts the whole piece, which has a byte at least and 4,096 at most.
 -- Assumes nothing.
 use native.Mathlib.Omega.{arith}
-use Rattle.line.proofs.Lengths.{fed-goes-on, fed-fills}
+use Rattle.capture.proofs.Lengths.{fed-goes-on, fed-fills}
 use borrow.Author.Needs.{needs}
 use Rattle.listing.proofs.list_piece.Statement.{statement}
 use Rattle.listing.proofs.list_piece.Tie as tie

@@ -5,8 +5,8 @@ use Prim.Native.Nat.{_+_, _-_, _≤_}
 use native.Mathlib.Omega.{arith}
 use lib.ListN.{length}
 use Rattle.cobs.specs.Answers.{encodedMax}
-use Rattle.line.specs.Lines.{heading}
-use Rattle.line.specs.Stream.{started}
+use Rattle.capture.specs.Listing.{heading}
+use Rattle.capture.specs.Stream.{started}
 use Rattle.listing.specs.Turns.{pieceMax, output, full, most}
 use borrow.Author.Needs.{needs}
 use Rattle.listing.proofs.main.Statement.{statement}

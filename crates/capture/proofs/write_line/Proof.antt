@@ -4,10 +4,10 @@ use mathlib.Core.Path.{sym}
 use native.Mathlib.Nat.{add-zero}
 use borrow.Author.Tests.{eq-eqb, ne-eqb}
 use Rattle.buffer.proofs.Laws.{lay-none}
-use Rattle.line.specs.Stream.{lineRun}
+use Rattle.capture.specs.Stream.{lineRun}
 use borrow.Author.Needs.{needs}
-use Rattle.line.proofs.write_line.Statement.{statement}
-use Rattle.line.proofs.write_line.Tie as tie
+use Rattle.capture.proofs.write_line.Statement.{statement}
+use Rattle.capture.proofs.write_line.Tie as tie
 
 returns : tie.Need-returns
 unfolding lineRun

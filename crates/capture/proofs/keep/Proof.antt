@@ -1,10 +1,10 @@
 -- The test is the definition's.
 -- Assumes nothing.
 use borrow.Author.Tests.{lt-ltb, le-ltb}
-use Rattle.line.specs.Stream.{keep}
+use Rattle.capture.specs.Stream.{keep}
 use borrow.Author.Needs.{needs}
-use Rattle.line.proofs.keep.Statement.{statement}
-use Rattle.line.proofs.keep.Tie as tie
+use Rattle.capture.proofs.keep.Statement.{statement}
+use Rattle.capture.proofs.keep.Tie as tie
 
 slice-write-run : tie.Need-slice-write-run
 slice-write-run c = search needs

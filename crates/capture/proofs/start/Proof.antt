@@ -1,10 +1,10 @@
 -- The text is the definition's.
 -- Assumes nothing.
-use Rattle.line.specs.Lines.{heading}
-use Rattle.line.specs.Stream.{started}
+use Rattle.capture.specs.Listing.{heading}
+use Rattle.capture.specs.Stream.{started}
 use borrow.Author.Needs.{needs}
-use Rattle.line.proofs.start.Statement.{statement}
-use Rattle.line.proofs.start.Tie as tie
+use Rattle.capture.proofs.start.Statement.{statement}
+use Rattle.capture.proofs.start.Tie as tie
 
 slice-aggregate-put : tie.Need-slice-aggregate-put
 slice-aggregate-put c = search needs

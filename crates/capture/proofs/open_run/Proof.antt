@@ -4,10 +4,10 @@ use mathlib.Core.Path.{sym}
 use native.Mathlib.Omega.{arith}
 use borrow.Author.Tests.{lt-ltb, le-ltb}
 use lib.Seq.{length-take-le}
-use Rattle.line.specs.Stream.{openRun}
+use Rattle.capture.specs.Stream.{openRun}
 use borrow.Author.Needs.{needs}
-use Rattle.line.proofs.open_run.Statement.{statement}
-use Rattle.line.proofs.open_run.Tie as tie
+use Rattle.capture.proofs.open_run.Statement.{statement}
+use Rattle.capture.proofs.open_run.Tie as tie
 
 returns : tie.Need-returns
 unfolding openRun

@@ -9,9 +9,10 @@ use lib.ListN.{length, drop, getD}
 use Rattle.buffer.specs.Lay.{lay}
 use Rattle.buffer.proofs.Laws.{next as next-byte, no-more}
 use Rattle.buffer.proofs.Laying.{Laying, start, done, fits}
-use Rattle.line.specs.Stream.{lineMax, keep, lineRun, Place, next, after, adds}
+use Rattle.line.specs.Lines.{lineMax}
+use Rattle.capture.specs.Stream.{keep, lineRun, Place, next, after, adds}
 use Rattle.text.proofs.Writing.{wrote}
-use Rattle.line.proofs.Lengths.{length-adds}
+use Rattle.capture.proofs.Lengths.{length-adds}
 
 abbrev pub place : ℕ → ℕ → List ℕ → Place
 place at len kept = record { at = at; len = len; kept = kept }

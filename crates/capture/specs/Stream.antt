@@ -11,12 +11,9 @@ use Rattle.cobs.specs.Answers.{encodedMax}
 use Rattle.frame.specs.Reading.{openAnswer}
 use Rattle.frame.specs.declared.Opened.{Opened}
 use Rattle.frame.specs.declared.Opened.the-variants as O
-use Rattle.line.specs.Lines.{heading, line}
-use Rattle.line.specs.declared.Stream.{Stream}
-
--- the longest line: 20 digits, a space, 10 letters, a space, 4 digits, a space, 20 digits and the line end
-abbrev pub lineMax : ℕ
-lineMax = 58
+use Rattle.line.specs.Lines.{line}
+use Rattle.capture.specs.Listing.{heading}
+use Rattle.capture.specs.declared.Stream.{Stream}
 
 -- ---- one run
 

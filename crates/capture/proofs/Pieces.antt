@@ -18,10 +18,11 @@ use Rattle.buffer.proofs.Deciding.{le-or-lt}
 use Rattle.cobs.specs.Answers.{encodedMax}
 use Rattle.frame.specs.Reading.{openAnswer}
 use Rattle.frame.specs.declared.Opened.the-variants as O
-use Rattle.line.specs.Lines.{heading, line, lineOf, lines, listing}
-use Rattle.line.specs.Stream.{keep, openRun, lineRun, Place, next, after, adds, addsAll, placeOf, started, fed}
-use Rattle.line.specs.declared.Stream.{Stream}
-use Rattle.line.proofs.Feeding.{place}
+use Rattle.line.specs.Lines.{line}
+use Rattle.capture.specs.Listing.{heading, lineOf, lines, listing}
+use Rattle.capture.specs.Stream.{keep, openRun, lineRun, Place, next, after, adds, addsAll, placeOf, started, fed}
+use Rattle.capture.specs.declared.Stream.{Stream}
+use Rattle.capture.proofs.Feeding.{place}
 
 -- the memory has room, and has the run where that is not too long
 record Holds (kept run : List ℕ) : Type 0 where

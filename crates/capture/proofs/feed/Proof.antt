@@ -4,10 +4,10 @@ use mathlib.Core.Path.{ap}
 use Prim.Native.Nat.{_-_}
 use native.Mathlib.Omega.{arith}
 use lib.ListN.{length}
-use Rattle.line.specs.Stream.{Place, fed}
-use Rattle.line.proofs.Feeding.{Feeding, begins, line-fits, zero, kept-on, ends}
-use Rattle.line.proofs.feed.Statement.{statement}
-use Rattle.line.proofs.feed.Tie as tie
+use Rattle.capture.specs.Stream.{Place, fed}
+use Rattle.capture.proofs.Feeding.{Feeding, begins, line-fits, zero, kept-on, ends}
+use Rattle.capture.proofs.feed.Statement.{statement}
+use Rattle.capture.proofs.feed.Tie as tie
 
 abbrev Inv-loop : tie.InvT-loop
 Inv-loop piece run₀ dst₀ at₀ len₀ filled₀ i₀ run dst at len filled i = Feeding piece run₀ dst₀ at₀ len₀ filled₀ run dst at len filled i
