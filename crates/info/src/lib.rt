@@ -147,15 +147,15 @@ pub fn put_info(m: Info, uids: &[u8], dst: &mut [u8]) -> usize
 fn info_head(m: Info) -> [u8; INFO_SIZE]
     ensures { λ r. ⌜ r ≡ infoHead m ⌝ }
 {
-    let chip = scalar::bytes_of_u16(m.radio_chip_id);
+    let chip = scalar::bytes_of_u64(m.radio_chip_id as u64);
     let cap = scalar::bytes_of_u64(m.capability_bitmap);
-    let sf = scalar::bytes_of_u16(m.supported_sf_bitmap);
-    let bw = scalar::bytes_of_u16(m.supported_bw_bitmap);
-    let most = scalar::bytes_of_u16(m.max_payload_bytes);
-    let rx = scalar::bytes_of_u16(m.rx_queue_capacity);
-    let tx = scalar::bytes_of_u16(m.tx_queue_capacity);
-    let low = scalar::bytes_of_u32(m.freq_min_hz);
-    let high = scalar::bytes_of_u32(m.freq_max_hz);
+    let sf = scalar::bytes_of_u64(m.supported_sf_bitmap as u64);
+    let bw = scalar::bytes_of_u64(m.supported_bw_bitmap as u64);
+    let most = scalar::bytes_of_u64(m.max_payload_bytes as u64);
+    let rx = scalar::bytes_of_u64(m.rx_queue_capacity as u64);
+    let tx = scalar::bytes_of_u64(m.tx_queue_capacity as u64);
+    let low = scalar::bytes_of_u64(m.freq_min_hz as u64);
+    let high = scalar::bytes_of_u64(m.freq_max_hz as u64);
     let weak = scalar::u8_of(m.tx_power_min_dbm);
     let strong = scalar::u8_of(m.tx_power_max_dbm);
     [
@@ -164,34 +164,34 @@ fn info_head(m: Info) -> [u8; INFO_SIZE]
         m.fw_major,
         m.fw_minor,
         m.fw_patch,
-        chip[0],
-        chip[1],
-        cap[0],
-        cap[1],
-        cap[2],
-        cap[3],
-        cap[4],
-        cap[5],
-        cap[6],
-        cap[7],
-        sf[0],
-        sf[1],
-        bw[0],
-        bw[1],
-        most[0],
-        most[1],
-        rx[0],
-        rx[1],
-        tx[0],
-        tx[1],
-        low[0],
-        low[1],
-        low[2],
-        low[3],
-        high[0],
-        high[1],
-        high[2],
-        high[3],
+        chip.b0,
+        chip.b1,
+        cap.b0,
+        cap.b1,
+        cap.b2,
+        cap.b3,
+        cap.b4,
+        cap.b5,
+        cap.b6,
+        cap.b7,
+        sf.b0,
+        sf.b1,
+        bw.b0,
+        bw.b1,
+        most.b0,
+        most.b1,
+        rx.b0,
+        rx.b1,
+        tx.b0,
+        tx.b1,
+        low.b0,
+        low.b1,
+        low.b2,
+        low.b3,
+        high.b0,
+        high.b1,
+        high.b2,
+        high.b3,
         weak,
         strong,
         m.mcu_uid_len,

@@ -82,31 +82,31 @@ pub fn packet(payload: &[u8]) -> &[u8]
 pub fn rx_bytes(m: Rx) -> [u8; RX_SIZE]
     ensures { λ r. ⌜ r ≡ rxBytes m ⌝ }
 {
-    let rssi = scalar::bytes_of_u16(scalar::u16_of(m.rssi));
-    let snr = scalar::bytes_of_u16(scalar::u16_of(m.snr));
-    let error = scalar::bytes_of_u32(scalar::u32_of(m.freq_err));
+    let rssi = scalar::bytes_of_u64(scalar::u16_of(m.rssi) as u64);
+    let snr = scalar::bytes_of_u64(scalar::u16_of(m.snr) as u64);
+    let error = scalar::bytes_of_u64(scalar::u32_of(m.freq_err) as u64);
     let time = scalar::bytes_of_u64(m.timestamp_us);
-    let lost = scalar::bytes_of_u16(m.packets_dropped);
+    let lost = scalar::bytes_of_u64(m.packets_dropped as u64);
     [
-        rssi[0],
-        rssi[1],
-        snr[0],
-        snr[1],
-        error[0],
-        error[1],
-        error[2],
-        error[3],
-        time[0],
-        time[1],
-        time[2],
-        time[3],
-        time[4],
-        time[5],
-        time[6],
-        time[7],
+        rssi.b0,
+        rssi.b1,
+        snr.b0,
+        snr.b1,
+        error.b0,
+        error.b1,
+        error.b2,
+        error.b3,
+        time.b0,
+        time.b1,
+        time.b2,
+        time.b3,
+        time.b4,
+        time.b5,
+        time.b6,
+        time.b7,
         m.crc_valid,
-        lost[0],
-        lost[1],
+        lost.b0,
+        lost.b1,
         m.origin,
     ]
 }

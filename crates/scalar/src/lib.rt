@@ -1,6 +1,7 @@
 // Numbers in a payload: P 5.1. Each stands low byte first, a signed one in two's complement.
 // Helpers of the crates above: those that read show that the bytes are there.
 ghost use mathlib.Core.Path.{_≡_};
+ghost use mathlib.Core.List.{[], _∷_};
 ghost use Prim.Native.Nat.{_+_, _≤_};
 ghost use lib.ListN.{length};
 ghost use Rattle.scalar.specs.Scalars.{le, i8, i16, i32, unsigned, signed, column, get};
@@ -58,9 +59,22 @@ pub fn bytes_of_u32(x: u32) -> [u8; 4]
     ]
 }
 
-// The bytes of a u64.
-pub fn bytes_of_u64(x: u64) -> [u8; 8]
-    ensures { λ r. ⌜ r ≡ le 8 x ⌝ }
+// Eight bytes, low byte first. They are fields and no array, so that a literal of more bytes can
+// name each in its place.
+pub struct Eight {
+    pub b0: u8,
+    pub b1: u8,
+    pub b2: u8,
+    pub b3: u8,
+    pub b4: u8,
+    pub b5: u8,
+    pub b6: u8,
+    pub b7: u8,
+}
+
+// The bytes of a u64. Those of a smaller number are the first of them.
+pub fn bytes_of_u64(x: u64) -> Eight
+    ensures { λ r. ⌜ r .b0 ∷ r .b1 ∷ r .b2 ∷ r .b3 ∷ r .b4 ∷ r .b5 ∷ r .b6 ∷ r .b7 ∷ [] ≡ le 8 x ⌝ }
 {
     let b = x / 256;
     let c = b / 256;
@@ -69,16 +83,16 @@ pub fn bytes_of_u64(x: u64) -> [u8; 8]
     let f = e / 256;
     let g = f / 256;
     let h = g / 256;
-    [
-        (x % 256) as u8,
-        (b % 256) as u8,
-        (c % 256) as u8,
-        (d % 256) as u8,
-        (e % 256) as u8,
-        (f % 256) as u8,
-        (g % 256) as u8,
-        (h % 256) as u8,
-    ]
+    Eight {
+        b0: (x % 256) as u8,
+        b1: (b % 256) as u8,
+        b2: (c % 256) as u8,
+        b3: (d % 256) as u8,
+        b4: (e % 256) as u8,
+        b5: (f % 256) as u8,
+        b6: (g % 256) as u8,
+        b7: (h % 256) as u8,
+    }
 }
 
 // The i8 with the byte u.

@@ -1,4 +1,4 @@
--- Byte by byte: what the calls promised, and a byte modulo 256 is itself.
+-- Byte by byte: what the calls promised, of each number its first bytes; and a byte modulo 256 is itself.
 -- Assumes nothing.
 use mathlib.Core.Path.{sym, ap, _∙_}
 use mathlib.Core.List.{[], _∷_}
@@ -17,94 +17,52 @@ use Rattle.rx.proofs.rx_bytes.Tie as tie
 u16-of-requires : tie.Need-u16-of-requires
 u16-of-requires c κs = search needs
 
-bytes-of-u16-requires : tie.Need-bytes-of-u16-requires
-bytes-of-u16-requires c κs = search needs
-
-u16-of-requires-2 : tie.Need-u16-of-requires-2
-u16-of-requires-2 c κs = search needs
-
-bytes-of-u16-requires-2 : tie.Need-bytes-of-u16-requires-2
-bytes-of-u16-requires-2 c κs = search needs
-
-u32-of-requires : tie.Need-u32-of-requires
-u32-of-requires c κs = search needs
-
-bytes-of-u32-requires : tie.Need-bytes-of-u32-requires
-bytes-of-u32-requires c κs = search needs
+cast-bytes-of-u64 : tie.Need-cast-bytes-of-u64
+cast-bytes-of-u64 c = search needs
 
 bytes-of-u64-requires : tie.Need-bytes-of-u64-requires
 bytes-of-u64-requires c κs = search needs
 
-bytes-of-u16-requires-3 : tie.Need-bytes-of-u16-requires-3
-bytes-of-u16-requires-3 c κs = search needs
+u16-of-requires-2 : tie.Need-u16-of-requires-2
+u16-of-requires-2 c κs = search needs
 
-array-read-t14 : tie.Need-array-read-t14
-array-read-t14 c = search needs
+cast-bytes-of-u64-2 : tie.Need-cast-bytes-of-u64-2
+cast-bytes-of-u64-2 c = search needs
 
-array-read-t17 : tie.Need-array-read-t17
-array-read-t17 c = search needs
+bytes-of-u64-requires-2 : tie.Need-bytes-of-u64-requires-2
+bytes-of-u64-requires-2 c κs = search needs
 
-array-read-t20 : tie.Need-array-read-t20
-array-read-t20 c = search needs
+u32-of-requires : tie.Need-u32-of-requires
+u32-of-requires c κs = search needs
 
-array-read-t23 : tie.Need-array-read-t23
-array-read-t23 c = search needs
+cast-bytes-of-u64-3 : tie.Need-cast-bytes-of-u64-3
+cast-bytes-of-u64-3 c = search needs
 
-array-read-t26 : tie.Need-array-read-t26
-array-read-t26 c = search needs
+bytes-of-u64-requires-3 : tie.Need-bytes-of-u64-requires-3
+bytes-of-u64-requires-3 c κs = search needs
 
-array-read-t29 : tie.Need-array-read-t29
-array-read-t29 c = search needs
+bytes-of-u64-requires-4 : tie.Need-bytes-of-u64-requires-4
+bytes-of-u64-requires-4 c κs = search needs
 
-array-read-t32 : tie.Need-array-read-t32
-array-read-t32 c = search needs
+cast-bytes-of-u64-4 : tie.Need-cast-bytes-of-u64-4
+cast-bytes-of-u64-4 c = search needs
 
-array-read-t35 : tie.Need-array-read-t35
-array-read-t35 c = search needs
-
-array-read-t38 : tie.Need-array-read-t38
-array-read-t38 c = search needs
-
-array-read-t41 : tie.Need-array-read-t41
-array-read-t41 c = search needs
-
-array-read-t44 : tie.Need-array-read-t44
-array-read-t44 c = search needs
-
-array-read-t47 : tie.Need-array-read-t47
-array-read-t47 c = search needs
-
-array-read-t50 : tie.Need-array-read-t50
-array-read-t50 c = search needs
-
-array-read-t53 : tie.Need-array-read-t53
-array-read-t53 c = search needs
-
-array-read-t56 : tie.Need-array-read-t56
-array-read-t56 c = search needs
-
-array-read-t59 : tie.Need-array-read-t59
-array-read-t59 c = search needs
-
-array-read-t62 : tie.Need-array-read-t62
-array-read-t62 c = search needs
-
-array-read-t65 : tie.Need-array-read-t65
-array-read-t65 c = search needs
+bytes-of-u64-requires-5 : tie.Need-bytes-of-u64-requires-5
+bytes-of-u64-requires-5 c κs = search needs
 
 returns : tie.Need-returns
 unfolding rxBytes lay le
 returns c =
-    let m = c .before .before .before .before .before .before .before .before .before .before .before .args .m in
-    let good = c .before .before .before .before .before .before .before .before .before .before .before .good in
+    let m = c .before .before .before .before .before .before .before .before .before .before .before .before .args .m in
+    let good = c .before .before .before .before .before .before .before .before .before .before .before .before .good in
     let rssi-held = toZ-ofZ {w = w16} {z = m .rssi} record { sfits = omega (arith, good) } in
     let snr-held = toZ-ofZ {w = w16} {z = m .snr} record { sfits = omega (arith, good) } in
     let error-held = toZ-ofZ {w = w32} {z = m .«freq_err»} record { sfits = omega (arith, good) } in
-    let rssi = c .before .before .before .before .before .before .before .before .bytes-of-u16 .ensures ∙ ap (le 2) (c .before .before .before .before .before .before .before .before .before .u16-of .ensures ∙ ap (unsigned i16) rssi-held) in
-    let snr = c .before .before .before .before .before .bytes-of-u162 .ensures ∙ ap (le 2) (c .before .before .before .before .before .before .u16-of2 .ensures ∙ ap (unsigned i16) snr-held) in
-    let error = c .before .before .bytes-of-u32 .ensures ∙ ap (le 4) (c .before .before .before .u32-of .ensures ∙ ap (unsigned i32) error-held) in
-    let time = c .before .bytes-of-u64 .ensures in
-    let lost = c .bytes-of-u163 .ensures in
+    let rssi = c .before .before .before .before .before .before .before .before .before .bytes-of-u64 .ensures ∙ ap (le 8) (c .before .before .before .before .before .before .before .before .before .before .u16-of .ensures ∙ ap (unsigned i16) rssi-held) in
+    let snr = c .before .before .before .before .before .before .bytes-of-u642 .ensures ∙ ap (le 8) (c .before .before .before .before .before .before .before .u16-of2 .ensures ∙ ap (unsigned i16) snr-held) in
+    let error = c .before .before .before .bytes-of-u643 .ensures ∙ ap (le 8) (c .before .before .before .before .u32-of .ensures ∙ ap (unsigned i32) error-held) in
+    let time = c .before .before .bytes-of-u644 .ensures in
+    let lost = c .bytes-of-u645 .ensures in
     let valid = sym (mod-eq-of-lt {n = m .«crc_valid»} {m = 256} (omega (arith, good))) in
     let origin = sym (mod-eq-of-lt {n = m .origin} {m = 256} (omega (arith, good))) in
     λ i.
@@ -120,29 +78,15 @@ rx-bytes-spec =
     tie.close
     (tie.spec
     u16-of-requires
-    bytes-of-u16-requires
-    u16-of-requires-2
-    bytes-of-u16-requires-2
-    u32-of-requires
-    bytes-of-u32-requires
+    cast-bytes-of-u64
     bytes-of-u64-requires
-    bytes-of-u16-requires-3
-    array-read-t14
-    array-read-t17
-    array-read-t20
-    array-read-t23
-    array-read-t26
-    array-read-t29
-    array-read-t32
-    array-read-t35
-    array-read-t38
-    array-read-t41
-    array-read-t44
-    array-read-t47
-    array-read-t50
-    array-read-t53
-    array-read-t56
-    array-read-t59
-    array-read-t62
-    array-read-t65
+    u16-of-requires-2
+    cast-bytes-of-u64-2
+    bytes-of-u64-requires-2
+    u32-of-requires
+    cast-bytes-of-u64-3
+    bytes-of-u64-requires-3
+    bytes-of-u64-requires-4
+    cast-bytes-of-u64-4
+    bytes-of-u64-requires-5
     returns)
