@@ -167,22 +167,22 @@ fn lora_of(params: &[u8]) -> Lora
 fn lora_bytes(m: Lora) -> [u8; LORA_SIZE]
     ensures { λ r. ⌜ r ≡ loraBytes m ⌝ }
 {
-    let freq = scalar::bytes_of_u32(m.freq_hz);
-    let preamble = scalar::bytes_of_u16(m.preamble_len);
-    let word = scalar::bytes_of_u16(m.sync_word);
+    let freq = scalar::bytes_of_u64(m.freq_hz as u64);
+    let preamble = scalar::bytes_of_u64(m.preamble_len as u64);
+    let word = scalar::bytes_of_u64(m.sync_word as u64);
     let power = scalar::u8_of(m.tx_power_dbm);
     [
-        freq[0],
-        freq[1],
-        freq[2],
-        freq[3],
+        freq.b0,
+        freq.b1,
+        freq.b2,
+        freq.b3,
         m.sf,
         m.bw,
         m.cr,
-        preamble[0],
-        preamble[1],
-        word[0],
-        word[1],
+        preamble.b0,
+        preamble.b1,
+        word.b0,
+        word.b1,
         power,
         m.header_mode,
         m.payload_crc,
@@ -213,26 +213,26 @@ fn fsk_of(params: &[u8]) -> Fsk
 fn fsk_bytes(m: Fsk) -> [u8; FSK_SIZE]
     ensures { λ r. ⌜ r ≡ fskBytes m ⌝ }
 {
-    let freq = scalar::bytes_of_u32(m.freq_hz);
-    let bitrate = scalar::bytes_of_u32(m.bitrate_bps);
-    let deviation = scalar::bytes_of_u32(m.freq_dev_hz);
-    let preamble = scalar::bytes_of_u16(m.preamble_len);
+    let freq = scalar::bytes_of_u64(m.freq_hz as u64);
+    let bitrate = scalar::bytes_of_u64(m.bitrate_bps as u64);
+    let deviation = scalar::bytes_of_u64(m.freq_dev_hz as u64);
+    let preamble = scalar::bytes_of_u64(m.preamble_len as u64);
     [
-        freq[0],
-        freq[1],
-        freq[2],
-        freq[3],
-        bitrate[0],
-        bitrate[1],
-        bitrate[2],
-        bitrate[3],
-        deviation[0],
-        deviation[1],
-        deviation[2],
-        deviation[3],
+        freq.b0,
+        freq.b1,
+        freq.b2,
+        freq.b3,
+        bitrate.b0,
+        bitrate.b1,
+        bitrate.b2,
+        bitrate.b3,
+        deviation.b0,
+        deviation.b1,
+        deviation.b2,
+        deviation.b3,
         m.rx_bw,
-        preamble[0],
-        preamble[1],
+        preamble.b0,
+        preamble.b1,
         m.sync_word_len,
     ]
 }
