@@ -1,13 +1,15 @@
--- What a payload has if its form is met, and the bytes of an OK to SET_CONFIG.
+-- What a payload has if its form is met, which OKs are empty, and the bytes of an OK to SET_CONFIG.
 -- The idea: where the form is met, each test before it that leads to Wrong was false; and the bytes compute.
 -- Assumes nothing.
 use mathlib.Core.Path.{_≡_, refl, sym}
 use mathlib.Core.Bool.{Bool, true, false, cond, true≢false}
-use mathlib.Core.List.{List, _∷_}
+use mathlib.Core.List.{List, [], _∷_}
 use Prim.Native.Nat.{ℕ, _+_, _-_, _<_, _≤_}
 use native.Mathlib.Nat.{mod-eq-of-lt}
 use native.Mathlib.Omega.{arith}
 use borrow.Author.Tests.{ltb-false, leb-true, le-leb}
+use denote.Enum.Declared.{tagOf}
+use types.Run.{OneOf, miss}
 use lib.Dec.{ltb}
 use lib.ListN.{length, drop, length-drop}
 use Rattle.buffer.specs.Lay.{lay}
@@ -17,8 +19,12 @@ use Rattle.form.specs.declared.Form.{Form}
 use Rattle.form.specs.declared.Form.the-variants as F
 use Rattle.modulation.specs.Modulations.{configForm, configBytes}
 use Rattle.rx.specs.Rx.{rxSize, rxForm}
-use Rattle.answer.specs.Answers.{configuredSize, configuredForm, configuredBytes, txDoneSize, txDoneForm}
+use Rattle.kind.specs.declared.Name.{Name}
+use Rattle.kind.specs.declared.Name.the-variants as N
+use Rattle.kind.proofs.Name.{the-type}
+use Rattle.answer.specs.Answers.{configuredSize, configuredForm, configuredBytes, txDoneSize, txDoneForm, okForm, okOf}
 use Rattle.answer.specs.declared.Configured.{Configured}
+use Rattle.answer.specs.declared.Answer.the-variants as A
 
 -- ---- forms
 
@@ -57,6 +63,18 @@ configured-there p e = (long, rest (configForm (drop 2 p)) refl)
         let h = leb-true (2 + k) (length p) (tested (F.Size (2 + k)) (rw q at e)) in
         rw (q, length-drop 2 p) (le-leb k (length p - 2) (omega arith))
     rest F.Wrong q = absurd (true≢false (sym (tested F.Wrong (rw q at e))))
+
+-- the OK to every command but GET_INFO and SET_CONFIG is empty
+abbrev bare : List ℕ
+bare = 0 ∷ 3 ∷ 4 ∷ 5 ∷ []
+
+pub empty-ok : (n : Name) (p : List ℕ) → OneOf bare (tagOf the-type n) → (F.Size 0 ≡ okForm n p) × (A.Ok ≡ okOf n p)
+empty-ok N.Ping p k = (refl, refl)
+empty-ok N.GetInfo p k = absurd (miss bare 1 tt k)
+empty-ok N.SetConfig p k = absurd (miss bare 2 tt k)
+empty-ok N.Tx p k = (refl, refl)
+empty-ok N.RxStart p k = (refl, refl)
+empty-ok N.RxStop p k = (refl, refl)
 
 -- ---- bytes
 

@@ -114,10 +114,7 @@ fn ok_form(name: Name, payload: &[u8]) -> Form
     match name {
         Name::GetInfo => info::info_form(payload),
         Name::SetConfig => configured_form(payload),
-        Name::Ping => Form::Size(0),
-        Name::Tx => Form::Size(0),
-        Name::RxStart => Form::Size(0),
-        Name::RxStop => Form::Size(0),
+        _ => Form::Size(0),
     }
 }
 
@@ -128,12 +125,10 @@ fn configured_form(payload: &[u8]) -> Form
     if payload.len() < CONFIGURED_SIZE {
         return Form::Wrong;
     }
-    let result = payload[0];
-    if CONFIGURED_MAX < result {
+    if CONFIGURED_MAX < payload[0] {
         return Form::Wrong;
     }
-    let owner = payload[1];
-    if CONFIGURED_MAX < owner {
+    if CONFIGURED_MAX < payload[1] {
         return Form::Wrong;
     }
     match modulation::config_form(&payload[CONFIGURED_SIZE..]) {
@@ -149,8 +144,7 @@ fn tx_done_form(payload: &[u8]) -> Form
     if payload.len() < TX_DONE_SIZE {
         return Form::Wrong;
     }
-    let result = payload[0];
-    if TX_DONE_MAX < result {
+    if TX_DONE_MAX < payload[0] {
         return Form::Wrong;
     }
     Form::Size(TX_DONE_SIZE)
@@ -171,10 +165,7 @@ fn ok_of(name: Name, payload: &[u8]) -> Answer
                 current,
             })
         }
-        Name::Ping => Answer::Ok,
-        Name::Tx => Answer::Ok,
-        Name::RxStart => Answer::Ok,
-        Name::RxStop => Answer::Ok,
+        _ => Answer::Ok,
     }
 }
 
@@ -254,8 +245,8 @@ fn put_configured(m: Configured, word: &[u8], dst: &mut [u8]) -> usize
 fn tx_done_bytes(result: u8, airtime: u32) -> [u8; TX_DONE_SIZE]
     ensures { λ r. ⌜ r ≡ txDoneBytes result airtime ⌝ }
 {
-    let time = scalar::bytes_of_u32(airtime);
-    [result, time[0], time[1], time[2], time[3]]
+    let time = scalar::bytes_of_u64(airtime as u64);
+    [result, time.b0, time.b1, time.b2, time.b3]
 }
 
 // Writes fields, and bytes after them.

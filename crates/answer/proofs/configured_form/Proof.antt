@@ -14,10 +14,11 @@ use Rattle.answer.proofs.configured_form.Tie as tie
 
 returns : tie.Need-returns
 unfolding configuredForm
-returns c = rw (lt-ltb _ _ (c .if1 .taken))
+returns c =
+    rw (lt-ltb _ _ (c .if1 .taken))
 
-shared-slice-read-result : tie.Need-shared-slice-read-result
-shared-slice-read-result c = search needs
+shared-slice-read-if2 : tie.Need-shared-slice-read-if2
+shared-slice-read-if2 c = search needs
 
 returns-2 : tie.Need-returns-2
 unfolding configuredForm
@@ -25,8 +26,8 @@ returns-2 c =
     let p = c .before .before .before .before .args .payload .now in
     rw (le-ltb _ _ (c .before .before .if1 .left), ← get-byte 0 p (omega arith), lt-ltb _ _ (c .if2 .taken))
 
-shared-slice-read-owner : tie.Need-shared-slice-read-owner
-shared-slice-read-owner c = search needs
+shared-slice-read-if3 : tie.Need-shared-slice-read-if3
+shared-slice-read-if3 c = search needs
 
 returns-3 : tie.Need-returns-3
 unfolding configuredForm
@@ -49,8 +50,9 @@ config-form-requires c κs = search needs
 enum-known-n : tie.Need-enum-known-n
 enum-known-n c = search needs
 
-add-t15 : tie.Need-add-t15
-add-t15 c = omega (arith, form-bounds _ _ (sym (c .before .before .before .config-form .ensures) ∙ c .before .n .given .1))
+add-t13 : tie.Need-add-t13
+add-t13 c =
+    omega (arith, form-bounds _ _ (sym (c .before .before .before .config-form .ensures) ∙ c .before .n .given .1))
 
 enum-told : tie.Need-enum-told
 enum-told c = search needs
@@ -74,16 +76,16 @@ configured-form-spec =
     tie.close
     (tie.spec
     returns
-    shared-slice-read-result
+    shared-slice-read-if2
     returns-2
-    shared-slice-read-owner
+    shared-slice-read-if3
     returns-3
     sub-config-form
     part-config-form-start
     part-config-form-end
     config-form-requires
     enum-known-n
-    add-t15
+    add-t13
     enum-told
     returns-4
     returns-5)

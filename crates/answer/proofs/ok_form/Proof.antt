@@ -1,5 +1,6 @@
--- By the case that the match found.
+-- By the case that the match found; the other OKs are empty.
 -- Assumes nothing.
+use Rattle.answer.proofs.Steps.{empty-ok}
 use borrow.Author.Needs.{needs}
 use Rattle.answer.proofs.ok_form.Statement.{statement}
 use Rattle.answer.proofs.ok_form.Tie as tie
@@ -16,35 +17,17 @@ enum-told-2 c = search needs
 configured-form-requires : tie.Need-configured-form-requires
 configured-form-requires c κs = search needs
 
-enum-told-3 : tie.Need-enum-told-3
-enum-told-3 c = search needs
-
-enum-told-4 : tie.Need-enum-told-4
-enum-told-4 c = search needs
-
-enum-told-5 : tie.Need-enum-told-5
-enum-told-5 c = search needs
-
-enum-told-6 : tie.Need-enum-told-6
-enum-told-6 c = search needs
-
 returns : tie.Need-returns
-returns c = rw (c .before .enum-told .given .1) (c .info-form .ensures)
+returns c =
+    rw (c .before .enum-told .given .1) (c .info-form .ensures)
 
 returns-2 : tie.Need-returns-2
-returns-2 c = rw (c .before .enum-told2 .given .1) (c .configured-form .ensures)
+returns-2 c =
+    rw (c .before .enum-told2 .given .1) (c .configured-form .ensures)
 
 returns-3 : tie.Need-returns-3
-returns-3 c = search needs
-
-returns-4 : tie.Need-returns-4
-returns-4 c = search needs
-
-returns-5 : tie.Need-returns-5
-returns-5 c = search needs
-
-returns-6 : tie.Need-returns-6
-returns-6 c = search needs
+returns-3 c =
+    empty-ok (c .before .before .args .name) (c .before .before .args .payload .now) (c .match .keys3) .0
 
 pub ok-form-spec : {M : Type 1} → statement M
 ok-form-spec =
@@ -54,13 +37,6 @@ ok-form-spec =
     info-form-requires
     enum-told-2
     configured-form-requires
-    enum-told-3
-    enum-told-4
-    enum-told-5
-    enum-told-6
     returns
     returns-2
-    returns-3
-    returns-4
-    returns-5
-    returns-6)
+    returns-3)

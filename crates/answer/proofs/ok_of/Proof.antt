@@ -1,4 +1,4 @@
--- By the case that the match found; the form says that the bytes are there.
+-- By the case that the match found; the form says that the bytes are there, and the other OKs are empty.
 -- Assumes nothing.
 use mathlib.Core.Path.{ap, _∙_}
 use native.Mathlib.Omega.{arith}
@@ -7,7 +7,7 @@ use Rattle.scalar.proofs.Laws.{get-byte}
 use Rattle.modulation.specs.Modulations.{configOf}
 use Rattle.answer.specs.Answers.{configuredOf}
 use Rattle.answer.specs.declared.Answer.the-variants as A
-use Rattle.answer.proofs.Steps.{configured-there}
+use Rattle.answer.proofs.Steps.{configured-there, empty-ok}
 use borrow.Author.Needs.{needs}
 use Rattle.answer.proofs.ok_of.Statement.{statement}
 use Rattle.answer.proofs.ok_of.Tie as tie
@@ -16,7 +16,8 @@ enum-told : tie.Need-enum-told
 enum-told c = search needs
 
 info-of-requires : tie.Need-info-of-requires
-info-of-requires c κs = rw (c .enum-told .given .1) at (c .before .before .before .pre)
+info-of-requires c κs =
+    rw (c .enum-told .given .1) at (c .before .before .before .pre)
 
 enum-told-2 : tie.Need-enum-told-2
 enum-told-2 c = search needs
@@ -47,20 +48,9 @@ shared-slice-read-t13 c =
     let h = configured-there (c .before .before .before .before .before .before .before .args .payload .now) (rw (c .before .before .before .before .enum-told2 .given .1) at (c .before .before .before .before .before .before .before .pre)) .0 in
     omega arith
 
-enum-told-3 : tie.Need-enum-told-3
-enum-told-3 c = search needs
-
-enum-told-4 : tie.Need-enum-told-4
-enum-told-4 c = search needs
-
-enum-told-5 : tie.Need-enum-told-5
-enum-told-5 c = search needs
-
-enum-told-6 : tie.Need-enum-told-6
-enum-told-6 c = search needs
-
 returns : tie.Need-returns
-returns c = rw (c .before .enum-told .given .1) (ap A.Info (c .info-of .ensures))
+returns c =
+    rw (c .before .enum-told .given .1) (ap A.Info (c .info-of .ensures))
 
 returns-2 : tie.Need-returns-2
 unfolding configuredOf
@@ -75,16 +65,8 @@ returns-2 c =
     })
 
 returns-3 : tie.Need-returns-3
-returns-3 c = search needs
-
-returns-4 : tie.Need-returns-4
-returns-4 c = search needs
-
-returns-5 : tie.Need-returns-5
-returns-5 c = search needs
-
-returns-6 : tie.Need-returns-6
-returns-6 c = search needs
+returns-3 c =
+    empty-ok (c .before .before .args .name) (c .before .before .args .payload .now) (c .match .keys3) .1
 
 pub ok-of-spec : {M : Type 1} → statement M
 ok-of-spec =
@@ -99,13 +81,6 @@ ok-of-spec =
     config-of-requires
     shared-slice-read-t11
     shared-slice-read-t13
-    enum-told-3
-    enum-told-4
-    enum-told-5
-    enum-told-6
     returns
     returns-2
-    returns-3
-    returns-4
-    returns-5
-    returns-6)
+    returns-3)

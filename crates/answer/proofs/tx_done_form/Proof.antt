@@ -10,10 +10,11 @@ use Rattle.answer.proofs.tx_done_form.Tie as tie
 
 returns : tie.Need-returns
 unfolding txDoneForm
-returns c = rw (lt-ltb _ _ (c .if1 .taken))
+returns c =
+    rw (lt-ltb _ _ (c .if1 .taken))
 
-shared-slice-read-result : tie.Need-shared-slice-read-result
-shared-slice-read-result c = search needs
+shared-slice-read-if2 : tie.Need-shared-slice-read-if2
+shared-slice-read-if2 c = search needs
 
 returns-2 : tie.Need-returns-2
 unfolding txDoneForm
@@ -28,4 +29,4 @@ returns-3 c =
     rw (le-ltb _ _ (c .before .before .if1 .left), ← get-byte 0 p (omega arith), le-ltb _ _ (c .if2 .left))
 
 pub tx-done-form-spec : {M : Type 1} → statement M
-tx-done-form-spec = tie.close (tie.spec returns shared-slice-read-result returns-2 returns-3)
+tx-done-form-spec = tie.close (tie.spec returns shared-slice-read-if2 returns-2 returns-3)
