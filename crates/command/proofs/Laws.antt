@@ -8,6 +8,8 @@ use Prim.Native.Nat.{ℕ, _+_, _<_, _≤_}
 use native.Mathlib.Nat.{mod-eq-of-lt}
 use native.Mathlib.Omega.{arith}
 use borrow.Author.Tests.{ltb-false, eqb-true}
+use denote.Enum.Declared.{tagOf}
+use types.Run.{OneOf, miss}
 use lib.Dec.{ltb, eqb}
 use lib.ListN.{length}
 use Rattle.buffer.specs.Lay.{lay}
@@ -24,6 +26,7 @@ use Rattle.command.specs.Ranges.{CommandIn}
 use Rattle.command.specs.declared.Command.{Command}
 use Rattle.command.specs.declared.Command.the-variants as C
 use Rattle.command.specs.declared.Asked.the-variants as A
+use Rattle.command.proofs.Command.{the-type}
 
 -- ---- a TX's payload
 
@@ -44,6 +47,19 @@ tx-small p e =
 pub tx-bytes : (f : ℕ) (packet : List ℕ) → f < 256 → txBytes f packet ≡ f ∷ packet
 unfolding txBytes lay le
 tx-bytes f packet h = rw (mod-eq-of-lt h)
+
+-- a command but SET_CONFIG and TX has the bytes alone
+abbrev bare : List ℕ
+bare = 0 ∷ 1 ∷ 4 ∷ 5 ∷ []
+
+pub bytes-alone : (c : Command) (bs : List ℕ) → OneOf bare (tagOf the-type c) → commandBytes c bs ≡ bs
+unfolding commandBytes
+bytes-alone C.Ping bs k = refl
+bytes-alone C.GetInfo bs k = refl
+bytes-alone (C.SetConfig m) bs k = absurd (miss bare 2 tt k)
+bytes-alone (C.Tx f) bs k = absurd (miss bare 3 tt k)
+bytes-alone C.RxStart bs k = refl
+bytes-alone C.RxStop bs k = refl
 
 -- ---- how long
 

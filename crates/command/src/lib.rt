@@ -99,8 +99,7 @@ fn tx_form(payload: &[u8]) -> Form
     if FLAGS_SIZE + PACKET_MAX < payload.len() {
         return Form::Wrong;
     }
-    let flags = payload[0];
-    if FLAGS_MAX < flags {
+    if FLAGS_MAX < payload[0] {
         return Form::Wrong;
     }
     Form::Size(payload.len())
@@ -137,10 +136,10 @@ pub fn put_command(c: Command, bytes: &[u8], dst: &mut [u8]) -> usize
     match c {
         Command::SetConfig(m) => modulation::put_config(m, bytes, dst, 0),
         Command::Tx { flags } => put_tx(flags, bytes, dst),
-        Command::Ping => put_bytes(bytes, dst),
-        Command::GetInfo => put_bytes(bytes, dst),
-        Command::RxStart => put_bytes(bytes, dst),
-        Command::RxStop => put_bytes(bytes, dst),
+        _ => {
+            buffer::copy(bytes, dst, 0);
+            bytes.len()
+        }
     }
 }
 
@@ -153,14 +152,4 @@ fn put_tx(flags: u8, packet: &[u8], dst: &mut [u8]) -> usize
     dst[0] = flags;
     buffer::copy(packet, dst, FLAGS_SIZE);
     FLAGS_SIZE + packet.len()
-}
-
-// Writes bytes alone.
-fn put_bytes(bytes: &[u8], dst: &mut [u8]) -> usize
-    requires { ⌜ length (now bytes) ≤ length (now dst) ⌝ }
-    ensures { λ r. ⌜ r ≡ length (now (bytes .entry)) ⌝ }
-    ensures { λ _. ⌜ now (dst .exit) ≡ lay 0 (now (bytes .entry)) (now (dst .entry)) ⌝ }
-{
-    buffer::copy(bytes, dst, 0);
-    bytes.len()
 }

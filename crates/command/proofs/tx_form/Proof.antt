@@ -13,17 +13,19 @@ add-if1 c = search needs
 
 returns : tie.Need-returns
 unfolding txForm
-returns c = rw (lt-ltb _ _ (c .if1 .taken))
+returns c =
+    rw (lt-ltb _ _ (c .if1 .taken))
 
 add-if2 : tie.Need-add-if2
 add-if2 c = search needs
 
 returns-2 : tie.Need-returns-2
 unfolding txForm
-returns-2 c = rw (le-ltb _ _ (c .before .if1 .left), lt-ltb _ _ (c .if2 .taken))
+returns-2 c =
+    rw (le-ltb _ _ (c .before .if1 .left), lt-ltb _ _ (c .if2 .taken))
 
-shared-slice-read-flags : tie.Need-shared-slice-read-flags
-shared-slice-read-flags c = search needs
+shared-slice-read-if3 : tie.Need-shared-slice-read-if3
+shared-slice-read-if3 c = search needs
 
 returns-3 : tie.Need-returns-3
 unfolding txForm
@@ -40,4 +42,4 @@ returns-4 c =
 pub tx-form-spec : {M : Type 1} → statement M
 tx-form-spec =
     tie.close
-    (tie.spec add-if1 returns add-if2 returns-2 shared-slice-read-flags returns-3 returns-4)
+    (tie.spec add-if1 returns add-if2 returns-2 shared-slice-read-if3 returns-3 returns-4)
