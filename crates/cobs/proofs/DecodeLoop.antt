@@ -68,6 +68,13 @@ module _ {src dst₀ dst : List ℕ} {r w : ℕ} (i : Decoding src dst₀ dst r 
   pub bounds : (0 < code) × (r + code ≤ length src) × (w + length group ≤ length dst) × (length group ≡ code - 1)
   bounds = (some, inner, fits group _ (rw split at (i .laying)), size)
 
+  pub first-inside : r + 1 ≤ r + code
+  first-inside = omega (arith, some)
+
+  -- less is left
+  pub less : length src - (r + code) < length src - r
+  less = omega (arith, some, h)
+
   on : whole 0 after ≡ true
   on = whole-more src r h some inner ∙ i .sound
 

@@ -4,7 +4,7 @@ use Prim.Native.Nat.{_-_}
 use native.Mathlib.Omega.{arith}
 use lib.ListN.{length}
 use Rattle.buffer.proofs.Laying.{done}
-use Rattle.cobs.proofs.DecodeLoop.{Decoding, begin, bounds, zero-fits, turn-zero, turn-full, turn-last, end}
+use Rattle.cobs.proofs.DecodeLoop.{Decoding, begin, bounds, first-inside, less, zero-fits, turn-zero, turn-full, turn-last, end}
 use Rattle.cobs.proofs.decode_into.Statement.{statement}
 use Rattle.cobs.proofs.decode_into.Tie as tie
 
@@ -32,29 +32,19 @@ add-r c =
     omega arith
 
 sub-copy : tie.Need-sub-copy Inv-loop μ-loop
-sub-copy c =
-    let b = bounds (c .before .before .loop .inv) (c .before .loop-test .taken) in
-    omega arith
+sub-copy c = first-inside (c .before .before .loop .inv) (c .before .loop-test .taken)
 
 part-copy-start : tie.Need-part-copy-start Inv-loop μ-loop
-part-copy-start c =
-    let b = bounds (c .before .before .loop .inv) (c .before .loop-test .taken) in
-    omega arith
+part-copy-start c = first-inside (c .before .before .loop .inv) (c .before .loop-test .taken)
 
 part-copy-end : tie.Need-part-copy-end Inv-loop μ-loop
-part-copy-end c =
-    let b = bounds (c .before .before .loop .inv) (c .before .loop-test .taken) in
-    omega arith
+part-copy-end c = bounds (c .before .before .loop .inv) (c .before .loop-test .taken) .1
 
 copy-requires : tie.Need-copy-requires Inv-loop μ-loop
-copy-requires c κs =
-    let b = bounds (c .before .before .before .before .loop .inv) (c .before .before .before .loop-test .taken) in
-    omega arith
+copy-requires c κs = bounds (c .before .before .before .before .loop .inv) (c .before .before .before .loop-test .taken) .2
 
 sub-w : tie.Need-sub-w Inv-loop μ-loop
-sub-w c =
-    let b = bounds (c .before .before .before .before .before .before .before .loop .inv) (c .before .before .before .before .before .before .loop-test .taken) in
-    omega arith
+sub-w c = bounds (c .before .before .before .before .before .before .before .loop .inv) (c .before .before .before .before .before .before .loop-test .taken) .0
 
 add-w : tie.Need-add-w Inv-loop μ-loop
 add-w c =
@@ -75,9 +65,7 @@ add-w-2 c =
     omega arith
 
 loop-less : tie.Need-loop-less Inv-loop μ-loop
-loop-less c =
-    let b = bounds (c .before .before .before .before .before .before .before .before .before .loop .inv) (c .before .before .before .before .before .before .before .before .loop-test .taken) in
-    omega arith
+loop-less c = less (c .before .before .before .before .before .before .before .before .before .loop .inv) (c .before .before .before .before .before .before .before .before .loop-test .taken)
 
 loop-again : tie.Need-loop-again Inv-loop μ-loop
 loop-again c =
@@ -85,9 +73,7 @@ loop-again c =
     (turn-zero (c .before .before .before .before .before .before .before .before .before .loop .inv) (c .before .before .before .before .before .before .before .before .loop-test .taken) (c .before .if1 .taken) (c .if2 .taken))
 
 loop-less-2 : tie.Need-loop-less-2 Inv-loop μ-loop
-loop-less-2 c =
-    let b = bounds (c .before .before .before .before .before .before .before .before .before .loop .inv) (c .before .before .before .before .before .before .before .before .loop-test .taken) in
-    omega arith
+loop-less-2 c = less (c .before .before .before .before .before .before .before .before .before .loop .inv) (c .before .before .before .before .before .before .before .before .loop-test .taken)
 
 loop-again-2 : tie.Need-loop-again-2 Inv-loop μ-loop
 loop-again-2 c =
@@ -95,9 +81,7 @@ loop-again-2 c =
     (turn-last (c .before .before .before .before .before .before .before .before .before .loop .inv) (c .before .before .before .before .before .before .before .before .loop-test .taken) (c .if2 .left))
 
 loop-less-3 : tie.Need-loop-less-3 Inv-loop μ-loop
-loop-less-3 c =
-    let b = bounds (c .before .before .before .before .before .before .before .before .loop .inv) (c .before .before .before .before .before .before .before .loop-test .taken) in
-    omega arith
+loop-less-3 c = less (c .before .before .before .before .before .before .before .before .loop .inv) (c .before .before .before .before .before .before .before .loop-test .taken)
 
 loop-again-3 : tie.Need-loop-again-3 Inv-loop μ-loop
 loop-again-3 c =

@@ -1,6 +1,7 @@
 -- Each turn lays one group with its code; see EncodeLoop.
 -- Assumes nothing.
 use Prim.Native.Nat.{_-_}
+use native.Mathlib.Nat.{le-refl}
 use native.Mathlib.Omega.{arith}
 use lib.ListN.{length}
 use Rattle.buffer.proofs.Laying.{done}
@@ -18,13 +19,13 @@ loop-holds : tie.Need-loop-holds Inv-loop μ-loop
 loop-holds c = begin _ _ (c .before .before .pre)
 
 sub-copy-group : tie.Need-sub-copy-group Inv-loop μ-loop
-sub-copy-group c = omega arith
+sub-copy-group c = c .loop .inv .inside
 
 part-copy-group-start : tie.Need-part-copy-group-start Inv-loop μ-loop
-part-copy-group-start c = omega arith
+part-copy-group-start c = c .loop .inv .inside
 
 part-copy-group-end : tie.Need-part-copy-group-end Inv-loop μ-loop
-part-copy-group-end c = omega arith
+part-copy-group-end c = le-refl _
 
 add-copy-group : tie.Need-add-copy-group Inv-loop μ-loop
 add-copy-group c =
@@ -32,9 +33,7 @@ add-copy-group c =
     omega arith
 
 copy-group-requires : tie.Need-copy-group-requires Inv-loop μ-loop
-copy-group-requires c κs =
-    let b = bounds (c .before .before .loop .inv) in
-    omega arith
+copy-group-requires c κs = bounds (c .before .before .loop .inv) .2
 
 add-code : tie.Need-add-code Inv-loop μ-loop
 add-code c =
