@@ -15,7 +15,7 @@ use Rattle.rx.specs.Rx.{rxSize, rxBytes}
 use Rattle.board.specs.Board.{ringMax}
 use Rattle.device.specs.State.{Packet}
 use Rattle.device.specs.Messages.{frame, rxValue}
-use Rattle.device.specs.Events.{cut, dropsMax}
+use Rattle.device.specs.Events.{cut, dropsMax, roomMin}
 use Rattle.control.specs.declared.Inbox.{Inbox}
 use Rattle.control.specs.declared.Device.{Device}
 use Rattle.control.specs.declared.Order.the-variants.{Nothing}
@@ -85,7 +85,7 @@ onRequest (suc n) m d =
 -- ---- the two events, with output of so much room
 
 abbrev heldWithin : ℕ → List ℕ → Device → Held → Held
-heldWithin room m d x = held (within room d (x .done)) (cond (ltb room 283) m (x .packets))
+heldWithin room m d x = held (within room d (x .done)) (cond (ltb room roomMin) m (x .packets))
 
 unfoldable pub packetDone : ℕ → Packet → List ℕ → Device → Held
 packetDone room p m d = heldWithin room m d (onPacket (d .inbox .receiving && free? (d .air .radio)) p m d)
