@@ -211,7 +211,10 @@ pub fn put_answer(a: Answer, bytes: &[u8], dst: &mut [u8]) -> usize
     ensures { λ _. ⌜ now (dst .exit) ≡ lay 0 (answerBytes a (now (bytes .entry))) (now (dst .entry)) ⌝ }
 {
     match a {
-        Answer::Ok => put_parts(&[], bytes, dst),
+        Answer::Ok => {
+            buffer::copy(bytes, dst, 0);
+            bytes.len()
+        }
         Answer::Info(m) => info::put_info(m, bytes, dst),
         Answer::Configured(m) => put_configured(m, bytes, dst),
         Answer::Err { code } => {

@@ -1,5 +1,7 @@
 -- By the case that the match found: each writes the bytes that the definition has for it.
 -- Assumes nothing.
+use mathlib.Core.Path.{refl}
+use native.Mathlib.Nat.{zero-add}
 use Rattle.buffer.specs.Lay.{lay}
 use Rattle.scalar.specs.Scalars.{le}
 use Rattle.answer.specs.Answers.{answerBytes}
@@ -10,26 +12,26 @@ use Rattle.answer.proofs.put_answer.Tie as tie
 enum-told : tie.Need-enum-told
 enum-told c = search needs
 
-slice-aggregate-put-parts : tie.Need-slice-aggregate-put-parts
-slice-aggregate-put-parts c = search needs
-
-put-parts-requires : tie.Need-put-parts-requires
+copy-requires : tie.Need-copy-requires
 unfolding answerBytes
-put-parts-requires c κs = rw (c .before .before .enum-told .given .1) at (c .before .before .before .before .before .before .pre)
+copy-requires c κs =
+    rw zero-add (rw (c .before .enum-told .given .1) at (c .before .before .before .before .before .pre))
 
 enum-known-a : tie.Need-enum-known-a
 enum-known-a c = search needs
 
 put-info-requires : tie.Need-put-info-requires
 unfolding answerBytes
-put-info-requires c κs = rw (c .before .before .a .given .1) at (c .before .before .before .before .before .before .pre)
+put-info-requires c κs =
+    rw (c .before .before .a .given .1) at (c .before .before .before .before .before .before .pre)
 
 enum-known-a-2 : tie.Need-enum-known-a-2
 enum-known-a-2 c = search needs
 
 put-configured-requires : tie.Need-put-configured-requires
 unfolding answerBytes
-put-configured-requires c κs = rw (c .before .before .a2 .given .1) at (c .before .before .before .before .before .before .pre)
+put-configured-requires c κs =
+    rw (c .before .before .a2 .given .1) at (c .before .before .before .before .before .before .pre)
 
 enum-known-a-3 : tie.Need-enum-known-a-3
 enum-known-a-3 c = search needs
@@ -37,12 +39,12 @@ enum-known-a-3 c = search needs
 bytes-of-u16-requires : tie.Need-bytes-of-u16-requires
 bytes-of-u16-requires c κs = search needs
 
-slice-aggregate-put-parts-2 : tie.Need-slice-aggregate-put-parts-2
-slice-aggregate-put-parts-2 c = search needs
+slice-aggregate-put-parts : tie.Need-slice-aggregate-put-parts
+slice-aggregate-put-parts c = search needs
 
-put-parts-requires-2 : tie.Need-put-parts-requires-2
+put-parts-requires : tie.Need-put-parts-requires
 unfolding answerBytes lay le
-put-parts-requires-2 c κs =
+put-parts-requires c κs =
     rw (c .before .before .bytes-of-u16 .ensures) (rw (c .before .before .before .before .a3 .given .1) at (c .before .before .before .before .before .before .before .before .pre))
 
 enum-known-a-4 : tie.Need-enum-known-a-4
@@ -51,12 +53,12 @@ enum-known-a-4 c = search needs
 rx-bytes-requires : tie.Need-rx-bytes-requires
 rx-bytes-requires c κs = search needs
 
-slice-aggregate-put-parts-3 : tie.Need-slice-aggregate-put-parts-3
-slice-aggregate-put-parts-3 c = search needs
+slice-aggregate-put-parts-2 : tie.Need-slice-aggregate-put-parts-2
+slice-aggregate-put-parts-2 c = search needs
 
-put-parts-requires-3 : tie.Need-put-parts-requires-3
+put-parts-requires-2 : tie.Need-put-parts-requires-2
 unfolding answerBytes
-put-parts-requires-3 c κs =
+put-parts-requires-2 c κs =
     rw (c .before .before .rx-bytes .ensures) (rw (c .before .before .before .before .a4 .given .1) at (c .before .before .before .before .before .before .before .before .pre))
 
 enum-known-a-5 : tie.Need-enum-known-a-5
@@ -65,12 +67,12 @@ enum-known-a-5 c = search needs
 tx-done-bytes-requires : tie.Need-tx-done-bytes-requires
 tx-done-bytes-requires c κs = search needs
 
-slice-aggregate-put-parts-4 : tie.Need-slice-aggregate-put-parts-4
-slice-aggregate-put-parts-4 c = search needs
+slice-aggregate-put-parts-3 : tie.Need-slice-aggregate-put-parts-3
+slice-aggregate-put-parts-3 c = search needs
 
-put-parts-requires-4 : tie.Need-put-parts-requires-4
+put-parts-requires-3 : tie.Need-put-parts-requires-3
 unfolding answerBytes
-put-parts-requires-4 c κs =
+put-parts-requires-3 c κs =
     rw (c .before .before .tx-done-bytes .ensures) (rw (c .before .before .before .before .a5 .given .1) at (c .before .before .before .before .before .before .before .before .pre))
 
 same-length : tie.Need-same-length
@@ -78,21 +80,24 @@ same-length c = search needs
 
 returns : tie.Need-returns
 unfolding answerBytes
-returns c = rw (c .before .before .before .before .before .enum-told .given .1) (c .before .before .put-parts .ensures)
+returns c =
+    rw (c .before .before .before .before .enum-told .given .1) (refl, c .before .before .copy .ensures)
 
 same-length-2 : tie.Need-same-length-2
 same-length-2 c = search needs
 
 returns-2 : tie.Need-returns-2
 unfolding answerBytes
-returns-2 c = rw (c .before .before .before .before .before .a .given .1) (c .before .before .put-info .ensures)
+returns-2 c =
+    rw (c .before .before .before .before .before .a .given .1) (c .before .before .put-info .ensures)
 
 same-length-3 : tie.Need-same-length-3
 same-length-3 c = search needs
 
 returns-3 : tie.Need-returns-3
 unfolding answerBytes
-returns-3 c = rw (c .before .before .before .before .before .a2 .given .1) (c .before .before .put-configured .ensures)
+returns-3 c =
+    rw (c .before .before .before .before .before .a2 .given .1) (c .before .before .put-configured .ensures)
 
 same-length-4 : tie.Need-same-length-4
 same-length-4 c = search needs
@@ -100,7 +105,7 @@ same-length-4 c = search needs
 returns-4 : tie.Need-returns-4
 unfolding answerBytes lay le
 returns-4 c =
-    rw (c .before .before .before .before .before .before .before .a3 .given .1) (rw (c .before .before .before .before .before .bytes-of-u16 .ensures) at (c .before .before .put-parts2 .ensures))
+    rw (c .before .before .before .before .before .before .before .a3 .given .1) (rw (c .before .before .before .before .before .bytes-of-u16 .ensures) at (c .before .before .put-parts .ensures))
 
 same-length-5 : tie.Need-same-length-5
 same-length-5 c = search needs
@@ -108,7 +113,7 @@ same-length-5 c = search needs
 returns-5 : tie.Need-returns-5
 unfolding answerBytes
 returns-5 c =
-    rw (c .before .before .before .before .before .before .before .a4 .given .1, ← c .before .before .before .before .before .rx-bytes .ensures) (c .before .before .put-parts3 .ensures)
+    rw (c .before .before .before .before .before .before .before .a4 .given .1, ← c .before .before .before .before .before .rx-bytes .ensures) (c .before .before .put-parts2 .ensures)
 
 same-length-6 : tie.Need-same-length-6
 same-length-6 c = search needs
@@ -116,31 +121,30 @@ same-length-6 c = search needs
 returns-6 : tie.Need-returns-6
 unfolding answerBytes
 returns-6 c =
-    rw (c .before .before .before .before .before .before .before .a5 .given .1, ← c .before .before .before .before .before .tx-done-bytes .ensures) (c .before .before .put-parts4 .ensures)
+    rw (c .before .before .before .before .before .before .before .a5 .given .1, ← c .before .before .before .before .before .tx-done-bytes .ensures) (c .before .before .put-parts3 .ensures)
 
 pub put-answer-spec : {M : Type 1} → statement M
 put-answer-spec =
     tie.close
     (tie.spec
     enum-told
-    slice-aggregate-put-parts
-    put-parts-requires
+    copy-requires
     enum-known-a
     put-info-requires
     enum-known-a-2
     put-configured-requires
     enum-known-a-3
     bytes-of-u16-requires
-    slice-aggregate-put-parts-2
-    put-parts-requires-2
+    slice-aggregate-put-parts
+    put-parts-requires
     enum-known-a-4
     rx-bytes-requires
-    slice-aggregate-put-parts-3
-    put-parts-requires-3
+    slice-aggregate-put-parts-2
+    put-parts-requires-2
     enum-known-a-5
     tx-done-bytes-requires
-    slice-aggregate-put-parts-4
-    put-parts-requires-4
+    slice-aggregate-put-parts-3
+    put-parts-requires-3
     same-length
     returns
     same-length-2
