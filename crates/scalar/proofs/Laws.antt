@@ -3,19 +3,24 @@
 use mathlib.Core.Path.{_≡_, refl, sym, ap, ap₂, subst, _∙_}
 use mathlib.Core.Bool.{Bool, true, false}
 use mathlib.Core.List.{List, [], _∷_, _++_}
-use Prim.Native.Nat.{ℕ, zero, suc, _+_, _-_, _*_, _^_, _/_, _<_, _≤_}
-use native.Mathlib.Nat.{pow-succ', mul-assoc}
+use Prim.Native.Nat.{ℕ, zero, suc, _+_, _-_, _*_, _^_, _/_, _%_, _<_, _≤_}
+use native.Mathlib.Nat.{pow-succ', mul-assoc, mod-lt}
 use native.Mathlib.Omega.{arith}
 use borrow.Author.Tests.{lt-ltb, le-ltb, ltb-true, ltb-false}
-use lib.Dec.{ltb}
+use lib.Dec.{ltb, lit<}
 use lib.IntN.{ℤ, pos, negsuc}
 use lib.ListN.{length, getD, take, drop, length-drop}
 use lib.Seq.{take-add, drop-drop, drop-cons, length-take-le}
 use lib.Signed.{mag}
+use mir.Syntax.{w8}
+use mir.Val.{Fits}
 use Rattle.scalar.specs.Bytes.{Bytes}
 use Rattle.scalar.specs.Scalars.{le, number, unsigned, signed, column, get}
 
 -- ---- bytes
+
+pub byte-fits : (x : ℕ) → Fits w8 (x % 256)
+byte-fits x = record { fits = mod-lt x (lit< tt) }
 
 pub length-le : (n x : ℕ) → length (le n x) ≡ n
 unfolding le
