@@ -4,9 +4,21 @@ ghost use mathlib.Core.Path.{_≡_};
 ghost use Prim.Native.Nat.{_+_, _≤_};
 ghost use lib.ListN.{length};
 ghost use Rattle.buffer.specs.Lay.{lay};
-ghost use Rattle.trace.specs.Traces.{none, plain, flag, orderText, bytesText, lineEnd, traceLine, eventText, countLine, badLine, eventsLine};
+ghost use Rattle.trace.specs.Traces.{none, plain, orders, Shows, orderText, bytesText, lineEnd, traceLine, eventText, countLine, badLine, eventsLine};
 use control::Answer;
 use control::Order;
+
+// What orders start with, in rows of twelve letters; an order with bytes has its flag.
+const ORDERS: [u8; 84] =
+    *b"none        standby     receive     configure/0/configure/1/transmit/0/ transmit/1/ ";
+
+// How an order is shown: n letters of a row, and len bytes of the memory of commands from index at on.
+struct Shown {
+    row: usize,
+    n: usize,
+    at: usize,
+    len: usize,
+}
 
 // Whether there is no order.
 fn is_none(o: Order) -> bool
@@ -43,16 +55,63 @@ pub fn is_plain(a: Answer) -> bool
     is_none(o)
 }
 
-// Writes 1 or 0, and a slash.
-fn put_flag(on: bool, dst: &mut [u8], from: usize) -> usize
-    requires { ⌜ from + length (flag on) ≤ length (now dst) ⌝ }
-    ensures { λ r. ⌜ r ≡ from + length (flag on) ⌝ }
-    ensures { λ r. ⌜ now (dst .exit) ≡ lay from (flag on) (now (dst .entry)) ⌝ }
+// How an order is shown.
+fn shows(o: Order) -> Shown
+    ensures { λ r. ⌜ r .row + r .n ≤ length orders ⌝ }
+    ensures { λ r. ⌜ Shows r o ⌝ }
 {
-    if on {
-        return text::put(b"1/", dst, from);
+    match o {
+        Order::Nothing => Shown {
+            row: 0,
+            n: 4,
+            at: 0,
+            len: 0,
+        },
+        Order::Standby => Shown {
+            row: 12,
+            n: 7,
+            at: 0,
+            len: 0,
+        },
+        Order::Configure { at, len, ldro } => {
+            if ldro {
+                return Shown {
+                    row: 48,
+                    n: 12,
+                    at,
+                    len,
+                };
+            }
+            Shown {
+                row: 36,
+                n: 12,
+                at,
+                len,
+            }
+        }
+        Order::Transmit { at, len, listen } => {
+            if listen {
+                return Shown {
+                    row: 72,
+                    n: 11,
+                    at,
+                    len,
+                };
+            }
+            Shown {
+                row: 60,
+                n: 11,
+                at,
+                len,
+            }
+        }
+        Order::Receive => Shown {
+            row: 24,
+            n: 7,
+            at: 0,
+            len: 0,
+        },
     }
-    text::put(b"0/", dst, from)
 }
 
 // Writes an order, with the bytes that it names in the memory of commands.
@@ -61,21 +120,12 @@ fn put_order(o: Order, commands: &[u8], dst: &mut [u8], from: usize) -> usize
     ensures { λ r. ⌜ r ≡ from + length (orderText o (now (commands .entry))) ⌝ }
     ensures { λ r. ⌜ now (dst .exit) ≡ lay from (orderText o (now (commands .entry))) (now (dst .entry)) ⌝ }
 {
-    match o {
-        Order::Nothing => text::put(b"none", dst, from),
-        Order::Standby => text::put(b"standby", dst, from),
-        Order::Configure { at, len, ldro } => {
-            let named = text::put(b"configure/", dst, from);
-            let flagged = put_flag(ldro, dst, named);
-            text::hex(buffer::part(commands, at, len), dst, flagged)
-        }
-        Order::Transmit { at, len, listen } => {
-            let named = text::put(b"transmit/", dst, from);
-            let flagged = put_flag(listen, dst, named);
-            text::hex(buffer::part(commands, at, len), dst, flagged)
-        }
-        Order::Receive => text::put(b"receive", dst, from),
-    }
+    let s = shows(o);
+    let row = s.row;
+    let end = row + s.n;
+    let orders = ORDERS;
+    let named = text::put(&orders[row..end], dst, from);
+    text::hex(buffer::part(commands, s.at, s.len), dst, named)
 }
 
 // Writes bytes, or that there are none.
