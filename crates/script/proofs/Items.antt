@@ -14,7 +14,7 @@ use Rattle.script.specs.declared.item.Item.the-variants as I
 use Rattle.script.specs.declared.item.Bytes.the-variants as B
 use Rattle.script.specs.Words.{word, others, same, wordsFrom}
 use Rattle.script.specs.Numbers.{decimal}
-use Rattle.script.specs.Items.{more, one, bytes, leading, byteItem, packetItem, packetBytes, tickItem, sentItem, roomItem, nameItem, named, namedBytes, itemOf, itemBytes, bare, comment, lineItem, lineBytes}
+use Rattle.script.specs.Items.{more, one, bytes, leading, byteItem, packetItem, packetBytes, plainItem, named, namedBytes, itemOf, itemBytes, bare, comment, lineItem, lineBytes}
 use Rattle.script.proofs.Words.{some}
 use Rattle.script.proofs.Numbers.{decimal-within}
 
@@ -63,28 +63,9 @@ module _ (room : ℕ) (ws : List (List ℕ)) (h : length (word ws) ≡ 0 → ⊥
       unfolding namedBytes
       line-without = bytes-named ∙ simp (b, p)
 
-      pub line-tick : same (word ws) (text "tick") ≡ true → itemOf room ws ≡ tickItem (others ws)
+      pub line-plain : itemOf room ws ≡ plainItem (word ws) (others ws)
       unfolding named
-      line-tick t = item-named ∙ simp (b, p, t)
-
-      module _ (t : same (word ws) (text "tick") ≡ false) where
-        pub line-sent : same (word ws) (text "sent") ≡ true → itemOf room ws ≡ sentItem (others ws)
-        unfolding named
-        line-sent s = item-named ∙ simp (b, p, t, s)
-
-        module _ (s : same (word ws) (text "sent") ≡ false) where
-          pub line-room : same (word ws) (text "room") ≡ true → itemOf room ws ≡ roomItem (others ws)
-          unfolding named
-          line-room r = item-named ∙ simp (b, p, t, s, r)
-
-          module _ (r : same (word ws) (text "room") ≡ false) where
-            pub line-more : more (others ws) ≡ true → itemOf room ws ≡ I.Bad
-            unfolding named
-            line-more m = item-named ∙ simp (b, p, t, s, r, m)
-
-            pub line-alone : more (others ws) ≡ false → itemOf room ws ≡ nameItem (word ws)
-            unfolding named
-            line-alone m = item-named ∙ simp (b, p, t, s, r, m)
+      line-plain = item-named ∙ simp (b, p)
 
 -- ---- a carriage return at the end
 

@@ -144,15 +144,19 @@ nameItem w =
 
 -- ---- all of them
 
+-- a line with this name and these words after it, that has no bytes
+unfoldable pub plainItem : List ℕ → List (List ℕ) → Item
+plainItem w ws =
+    cond (same w (text "tick")) (tickItem ws)
+    (cond (same w (text "sent")) (sentItem ws)
+    (cond (same w (text "room")) (roomItem ws)
+    (cond (more ws) I.Bad (nameItem w))))
+
 -- a line with this name and these words after it, where there is room for so many bytes
 unfoldable pub named : ℕ → List ℕ → List (List ℕ) → Item
 named room w ws =
     cond (same w (text "byte")) (byteItem room ws)
-    (cond (same w (text "packet")) (packetItem room ws)
-    (cond (same w (text "tick")) (tickItem ws)
-    (cond (same w (text "sent")) (sentItem ws)
-    (cond (same w (text "room")) (roomItem ws)
-    (cond (more ws) I.Bad (nameItem w))))))
+    (cond (same w (text "packet")) (packetItem room ws) (plainItem w ws))
 
 -- the bytes of such a line
 unfoldable pub namedBytes : ℕ → List ℕ → List (List ℕ) → List ℕ

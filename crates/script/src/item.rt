@@ -3,7 +3,7 @@ ghost use mathlib.Core.Path.{_≡_};
 ghost use lib.ListN.{length};
 ghost use Rattle.buffer.specs.Lay.{lay};
 ghost use Rattle.script.specs.Words.{words};
-ghost use Rattle.script.specs.Items.{more, one, headOf, countOf, leading, nameItem, byteItem, packetItem, packetBytes, tickItem, sentItem, roomItem, itemOf, itemBytes, lineItem, lineBytes};
+ghost use Rattle.script.specs.Items.{more, one, headIn, tailIn, headOf, countOf, leading, nameItem, byteItem, packets, packetItem, packetBytes, tickItem, sentItem, roomItem, plainItem, itemOf, itemBytes, lineItem, lineBytes};
 ghost use lib.ListN.{take};
 use crate::number;
 use crate::number::Number;
@@ -93,16 +93,23 @@ fn read_words(line: &[u8], memory: &mut [u8]) -> Item
     if word::same(name, b"packet") {
         return packet(rest, memory);
     }
+    plain(name, rest)
+}
+
+// A line that has no bytes.
+fn plain(name: &[u8], args: &[u8]) -> Item
+    ensures { λ r. ⌜ r ≡ plainItem (now (name .entry)) (words (now (args .entry))) ⌝ }
+{
     if word::same(name, b"tick") {
-        return tick(rest);
+        return tick(args);
     }
     if word::same(name, b"sent") {
-        return sent(rest);
+        return sent(args);
     }
     if word::same(name, b"room") {
-        return room(rest);
+        return room(args);
     }
-    if is_more(rest) {
+    if is_more(args) {
         return Item::Bad;
     }
     alone(name)
@@ -205,18 +212,27 @@ fn packet(args: &[u8], memory: &mut [u8]) -> Item
     ensures { λ r. ⌜ r ≡ packetItem (length (now (memory .entry))) (words (now (args .entry))) ⌝ }
     ensures { λ r. ⌜ now (memory .exit) ≡ lay 0 (packetBytes (length (now (memory .entry))) (words (now (args .entry)))) (now (memory .entry)) ⌝ }
 {
-    let b = word::rest(args);
-    let c = word::rest(b);
-    let d = word::rest(c);
-    let e = word::rest(d);
-    let f = word::rest(e);
-    let h = head_of(
-        word::first(args),
-        word::first(b),
-        word::first(c),
-        word::first(d),
-        word::first(e),
-    );
+    let h = head_in(args);
+    let Head::Good {
+        rssi: _,
+        snr: _,
+        freq: _,
+        time: _,
+        crc: _,
+    } = h
+    else {
+        return Item::Bad;
+    };
+    let Bytes::Count(len) = all_bytes(tail_in(args), memory) else {
+        return Item::Bad;
+    };
+    heard(h, len)
+}
+
+// A packet with so many bytes.
+fn heard(h: Head, len: usize) -> Item
+    ensures { λ r. ⌜ r ≡ packets h (Bytes.Count len) ⌝ }
+{
     let Head::Good {
         rssi,
         snr,
@@ -227,9 +243,6 @@ fn packet(args: &[u8], memory: &mut [u8]) -> Item
     else {
         return Item::Bad;
     };
-    let Bytes::Count(len) = all_bytes(f, memory) else {
-        return Item::Bad;
-    };
     Item::Packet {
         rssi: scalar::i16_of(rssi),
         snr: scalar::i16_of(snr),
@@ -238,6 +251,30 @@ fn packet(args: &[u8], memory: &mut [u8]) -> Item
         crc,
         len,
     }
+}
+
+// What a packet's line has before its bytes.
+fn head_in(args: &[u8]) -> Head
+    ensures { λ r. ⌜ r ≡ headIn (words (now (args .entry))) ⌝ }
+{
+    let b = word::rest(args);
+    let c = word::rest(b);
+    let d = word::rest(c);
+    let e = word::rest(d);
+    head_of(
+        word::first(args),
+        word::first(b),
+        word::first(c),
+        word::first(d),
+        word::first(e),
+    )
+}
+
+// What follows that.
+fn tail_in(args: &[u8]) -> &[u8]
+    ensures { λ r. ⌜ words (now r) ≡ tailIn (words (now (args .entry))) ⌝ }
+{
+    word::rest(word::rest(word::rest(word::rest(word::rest(args)))))
 }
 
 // The numbers of a packet's line.

@@ -4,7 +4,7 @@ ghost use Prim.Native.Nat.{_+_, _<_, _≤_};
 ghost use Rattle.script.specs.Numbers.{within, decimal, signed, nibble, byteOf};
 
 // What a word is worth.
-pub enum Number {
+pub(crate) enum Number {
     Value(u64),
     // It is no number, or one that is too high.
     Bad,
@@ -21,7 +21,7 @@ fn is_within(a: u8, b: u8, c: u8) -> bool
 }
 
 // A word as a decimal number up to most.
-pub fn decimal(word: &[u8], most: u64) -> Number
+pub(crate) fn decimal(word: &[u8], most: u64) -> Number
     ensures { λ r. ⌜ r ≡ decimal most (now (word .entry)) ⌝ }
 {
     if word.len() == 0 {
@@ -49,7 +49,7 @@ pub fn decimal(word: &[u8], most: u64) -> Number
 
 // A word as a signed decimal number, of a type of which half the numbers are below zero. It comes in
 // two's complement.
-pub fn signed(word: &[u8], half: u64) -> Number
+pub(crate) fn signed(word: &[u8], half: u64) -> Number
     requires { ⌜ (1 ≤ half) × (half ≤ 0x80000000) ⌝ }
     ensures { λ r. ⌜ r ≡ signed half (now (word .entry)) ⌝ }
 {
@@ -85,7 +85,7 @@ fn nibble(c: u8) -> u16
 }
 
 // A word of two hexadecimal digits as a byte; 256 if it is none.
-pub fn byte_of(word: &[u8]) -> u16
+pub(crate) fn byte_of(word: &[u8]) -> u16
     ensures { λ r. ⌜ r ≡ byteOf (now (word .entry)) ⌝ }
 {
     if word.len() != 2 {

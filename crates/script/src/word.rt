@@ -45,7 +45,7 @@ fn span(s: &[u8]) -> usize
 }
 
 // How much of s its first word takes, with the blanks before it.
-pub fn used(s: &[u8]) -> usize
+pub(crate) fn used(s: &[u8]) -> usize
     ensures { λ r. ⌜ r ≡ used (now (s .entry)) ⌝ }
 {
     let n = lead(s);
@@ -53,7 +53,7 @@ pub fn used(s: &[u8]) -> usize
 }
 
 // The first word of s; no bytes, if there is none.
-pub fn first(s: &[u8]) -> &[u8]
+pub(crate) fn first(s: &[u8]) -> &[u8]
     ensures { λ r. ⌜ now r ≡ word (words (now (s .entry))) ⌝ }
 {
     let t = buffer::from(s, lead(s));
@@ -61,14 +61,14 @@ pub fn first(s: &[u8]) -> &[u8]
 }
 
 // What follows the first word of s.
-pub fn rest(s: &[u8]) -> &[u8]
+pub(crate) fn rest(s: &[u8]) -> &[u8]
     ensures { λ r. ⌜ words (now r) ≡ others (words (now (s .entry))) ⌝ }
 {
     buffer::from(s, used(s))
 }
 
 // Whether two texts are the same.
-pub fn same(a: &[u8], b: &[u8]) -> bool
+pub(crate) fn same(a: &[u8], b: &[u8]) -> bool
     ensures { λ r. ⌜ r ≡ same (now (a .entry)) (now (b .entry)) ⌝ }
 {
     if a.len() != b.len() {
