@@ -245,7 +245,7 @@ fn put_configured(m: Configured, word: &[u8], dst: &mut [u8]) -> usize
 }
 
 // The bytes of a TX_DONE.
-fn tx_done_bytes(result: u8, airtime: u32) -> [u8; TX_DONE_SIZE]
+pub fn tx_done_bytes(result: u8, airtime: u32) -> [u8; TX_DONE_SIZE]
     ensures { λ r. ⌜ r ≡ txDoneBytes result airtime ⌝ }
 {
     let time = scalar::bytes_of_u64(airtime as u64);

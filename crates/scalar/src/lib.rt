@@ -44,21 +44,6 @@ pub fn bytes_of_u16(x: u16) -> [u8; 2]
     [(x % 256) as u8, (high % 256) as u8]
 }
 
-// The bytes of a u32.
-pub fn bytes_of_u32(x: u32) -> [u8; 4]
-    ensures { λ r. ⌜ r ≡ le 4 x ⌝ }
-{
-    let second = x / 256;
-    let third = second / 256;
-    let fourth = third / 256;
-    [
-        (x % 256) as u8,
-        (second % 256) as u8,
-        (third % 256) as u8,
-        (fourth % 256) as u8,
-    ]
-}
-
 // Eight bytes, low byte first. They are fields and no array, so that a literal of more bytes can
 // name each in its place.
 pub struct Eight {

@@ -45,7 +45,6 @@ pub fn say_done(result: u8, airtime: u32, tag: u16, out: &mut [u8], at: usize) -
     requires { ⌜ at + 12 ≤ length (now out) ⌝ }
     ensures { λ r. ⌜ Says (seen (txDone result airtime tag)) (now (out .entry)) at r (now (out .exit)) ⌝ }
 {
-    let time = scalar::bytes_of_u32(airtime);
-    let payload = [result, time[0], time[1], time[2], time[3]];
+    let payload = answer::tx_done_bytes(result, airtime);
     say(TX_DONE, tag, &payload, out, at)
 }
