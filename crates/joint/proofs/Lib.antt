@@ -8,3 +8,4 @@ pub mod Byte
 pub mod Joint
 pub mod Demands
 pub mod Refusals
+pub mod Sending
