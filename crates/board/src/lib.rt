@@ -12,6 +12,10 @@ use modulation::Modulation;
 
 // The bytes of what the board says of itself: P 6.2, with eight of the MCU's uid.
 pub const INFO_SIZE: usize = 45;
+// So many received packets are held, and so many TX can be open.
+pub const RING_MAX: usize = 64;
+
+pub const TX_MAX: usize = 16;
 // The frequencies in Hz and the powers in dBm that it takes, both ends included.
 const FREQ_MIN: u32 = 150000000;
 

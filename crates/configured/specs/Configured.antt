@@ -17,6 +17,7 @@ use Rattle.control.specs.declared.Order.the-variants.{Nothing, Standby}
 use Rattle.control.specs.Control.{device, withAir, withRadio, Done, taken, refused, within}
 use Rattle.slot.specs.Slots.{setting, tagAt, headAt, payloadAt}
 
+-- the mode that a modulation puts the device in
 abbrev pub modeOf : ℕ → Mode
 modeOf id = cond (eqb id LORA) Lora Fsk
 
@@ -24,6 +25,7 @@ modeOf id = cond (eqb id LORA) Lora Fsk
 abbrev pub okConfigured : List ℕ → Frame
 okConfigured m = frame OK (tagAt m setting) (APPLIED ∷ MINE ∷ payloadAt m setting)
 
+-- the configuration is in force, unless its session has ended: then the radio goes to standby
 abbrev pub inForce : Bool → List ℕ → Device → Done
 inForce true m d =
     taken (device (modeOf (headAt m setting)) (d .link) (withRadio (d .air) Free) (d .inbox)) (okConfigured m ∷ []) Nothing

@@ -6,6 +6,7 @@ ghost use lib.ListN.{length};
 ghost use Rattle.device.specs.Events as E;
 ghost use Rattle.control.specs.Control.{Gives, unconfigured};
 ghost use Rattle.dispatch.specs.Commands.{Rules, open#, onTx, onSet, turned, atOnce, judged};
+use board::TX_MAX;
 use control::Air;
 use control::Answer;
 use control::Device;
@@ -20,7 +21,6 @@ use kind::RX_STOP;
 use kind::SET_CONFIG;
 use kind::TX;
 use queue::CANCELLED;
-use queue::TX_MAX;
 use slot::COMMANDS;
 use slot::SETTING;
 

@@ -10,6 +10,7 @@ ghost use Rattle.device.specs.Messages as M;
 ghost use Rattle.device.specs.Events.{cut};
 ghost use Rattle.wire.specs.Wire.{Says};
 ghost use Rattle.inbox.specs.Packets.{packetsSize, slotBytes, kept, counted, payloadAt, packetOf, more, packetDone, requestDone, Keeps, Delivers};
+use board::RING_MAX;
 use control::Answer;
 use control::Device;
 use control::Inbox;
@@ -21,8 +22,8 @@ use numbers::ROOM;
 use rx::RX_SIZE;
 use rx::Rx;
 
-// So many packets are held: 01 "What the firmware covers".
-pub const RING_MAX: usize = 64;
+// How many packets are held, as a byte.
+const RING: u8 = RING_MAX as u8;
 // A slot: the packet's length, RX's fields, and a packet of up to 255 bytes.
 pub const SLOT_SIZE: usize = 276;
 // The memory of packets: 64 slots.
@@ -84,7 +85,7 @@ fn more(i: Inbox) -> Inbox
             drops: i.drops,
         };
     }
-    let first = (i.first % 64 + 1) % 64;
+    let first = (i.first % RING + 1) % RING;
     if i.drops < DROPS_MAX {
         return Inbox {
             receiving: i.receiving,
@@ -165,7 +166,7 @@ pub fn request(d: Device, packets: &mut [u8; PACKETS], out: &mut [u8]) -> Answer
     if held == 0 {
         return control::accept(d, 0, Order::Nothing);
     }
-    let slot = (i.first % 64) as usize;
+    let slot = (i.first % RING) as usize;
     let w = deliver(slot, i.drops, packets, out);
     let first = ((slot + 1) % RING_MAX) as u8;
     let inbox = Inbox {

@@ -8,6 +8,7 @@ ghost use Rattle.board.specs.Params.{paramsGood};
 ghost use Rattle.modulation.specs.Modulations.{configOf};
 ghost use Rattle.device.specs.Frames.{needsConfig, strange, configSized, sized, good, objects};
 ghost use Rattle.objection.specs.Objection.{codeOf};
+use board::TX_MAX;
 use kind::RX_START;
 use kind::RX_STOP;
 use kind::SET_CONFIG;
@@ -29,8 +30,6 @@ const EUNKNOWN_CMD: u16 = 0x0005;
 const EBUSY: u16 = 0x0006;
 // No objection.
 pub const NONE: u16 = 0;
-// So many TX can be open.
-const TX_MAX: usize = 16;
 // The payload of a SET_CONFIG: LoRa's whole, FSK's without the sync word, and where sync_word_len
 // stands in it.
 const LORA_SIZE: usize = 16;

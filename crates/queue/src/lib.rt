@@ -7,6 +7,7 @@ ghost use Rattle.control.specs.Control.{Gives, answerOf};
 ghost use Rattle.wire.specs.Wire.{sends};
 ghost use Rattle.buffer.specs.Lay.{lay};
 ghost use Rattle.queue.specs.Queue.{listens, begun, start, waitingTags, cancels, ldroAt, begin, afterTx};
+use board::TX_MAX;
 use control::Air;
 use control::Answer;
 use control::Device;
@@ -19,8 +20,6 @@ use slot::SETTING;
 use slot::SLOT_SIZE;
 use slot::TAG;
 
-// So many TX can be open: 01 "What the firmware covers".
-pub const TX_MAX: usize = 16;
 // Where the packet stands in the slot of a TX, after its flags.
 const PACKET: usize = 4;
 // Where sf and bw stand in the payload of a SET_CONFIG: P 10.1, after the modulation.

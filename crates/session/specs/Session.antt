@@ -13,9 +13,11 @@ use Rattle.control.specs.Control.{link, air, device, withLink, silent, deaf, ra
 
 -- ---- a session's end
 
+-- it leaves of the radio what the definition says
 abbrev pub ended : Radio → Radio
 ended r = radioIs (E.ended (radioOf r))
 
+-- and of the rest nothing; standby is ordered if the radio is free
 unfoldable pub endSession : Device → Done
 endSession d =
     taken (device Unconfigured silent (air (ended (d .air .radio)) false (d .air .first) 0) (deaf (d .inbox))) []
@@ -31,10 +33,12 @@ onTick d =
     (taken (withLink d (link true (d .link .ticks + 1) (d .link .run))) [] Nothing))
     (taken d [] Nothing)
 
+-- with no session open only the run is emptied
 abbrev pub onDisconnect : Bool → Device → Done
 onDisconnect true d = endSession d
 onDisconnect false d = taken (withLink d (link false (d .link .ticks) 0)) [] Nothing
 
+-- the two events, with output of so much room
 unfoldable pub tickDone : ℕ → Device → Done
 tickDone room d = within room d (onTick d)
 
