@@ -1,14 +1,11 @@
--- What the code's tests say by the definitions: the code of an objection and the type of a command choose what is done, and so does the number of the radio's
--- variant, which is what a match knows of it.
+-- What the code's tests say by the definitions: the code of an objection and the type of a command choose what is done.
 -- Assumes nothing.
 use Prim.Native.Nat.{ℕ, _<_, _≤_}
 use mathlib.Core.Path.{_≡_, refl, sym, ap, subst, _∙_}
 use mathlib.Core.Bool.{Bool, true, false, cond, not, _&&_}
 use mathlib.Core.List.{List, [], _∷_}
-use mathlib.Core.Logic.{_⊎_, inl, inr}
 use mathlib.Core.Option.{Option, none, some}
 use native.Mathlib.Omega.{arith}
-use denote.Enum.Declared.{tagOf}
 use borrow.Author.Tests.{eq-eqb, ne-eqb}
 use lib.Dec.{leb, eqb}
 use lib.ListN.{length}
@@ -21,16 +18,12 @@ use Rattle.device.specs.Messages.{seen, ok, okInfo, err, EPARAM, ELENGTH, ENOTC
 use Rattle.device.specs.Frames.{needsConfig, strange, sized, good, objects}
 use Rattle.objection.specs.Objection.{codeOf}
 use Rattle.objection.proofs.Laws.{none-tx, none-set}
-use Rattle.control.specs.declared.Radio.{Radio}
-use Rattle.control.specs.declared.Radio.the-variants.{Free, Listening, OnAir, Orphan, Configuring}
 use Rattle.control.specs.declared.Device.{Device}
 use Rattle.control.specs.declared.Order.the-variants.{Nothing}
 use Rattle.control.specs.declared.Answer.{Answer}
-use Rattle.control.specs.Control.{unconfigured, Done, taken, answerOf, Gives}
-use Rattle.control.proofs.Laws.{silent}
-use Rattle.control.proofs.Radio.{the-type}
-use Rattle.queue.specs.Queue.{start, begin}
-use Rattle.dispatch.specs.Commands.{Ruled, ruled, open#, onTx, pends, sets, onSet, turned, atOnce, onCommand, unless, judged, Rules}
+use Rattle.control.specs.Control.{unconfigured, Done, taken, Gives}
+use Rattle.intake.specs.Intake.{Ruled, ruled, open#, onTx, onSet, Rules}
+use Rattle.dispatch.specs.Commands.{turned, atOnce, onCommand, unless, judged}
 
 -- ---- what a command gives
 
@@ -41,41 +34,6 @@ rules y e g = rw e g
 -- the memory of commands stays
 pub rules-only : {x : Done} {o o' m : List ℕ} {r : Answer} → Gives x o 0 r o' → Rules (ruled x m) o r o' m
 rules-only g = record { gives = g; commands = refl }
-
--- ---- TX
-
--- one that starts says nothing
-pub starts : (m : List ℕ) (k n : ℕ) (d : Device) (o : List ℕ) (at : ℕ) {r : Answer} → r ≡ answerOf at (start m k n d) → Gives (start m k n d) o at r o
-unfolding start
-starts m k n d o at e = silent (start m k n d) o at refl e
-
--- ---- SET_CONFIG
-
-abbrev number : Radio → ℕ
-number r = tagOf the-type r
-
-module _ (m : List ℕ) (d : Device) where
-  -- with a TX or an orphan on air it waits
-  pub sets-later : (r : Radio) → (number r ≡ 2) ⊎ (number r ≡ 3) → sets r m d ≡ pends d
-  sets-later (OnAir t) k = refl
-  sets-later Orphan k = refl
-  sets-later Free (inl e) = absurd (omega arith)
-  sets-later Free (inr e) = absurd (omega arith)
-  sets-later (Listening t) (inl e) = absurd (omega arith)
-  sets-later (Listening t) (inr e) = absurd (omega arith)
-  sets-later Configuring (inl e) = absurd (omega arith)
-  sets-later Configuring (inr e) = absurd (omega arith)
-
-  -- with no TX it begins
-  pub sets-now : (r : Radio) → (number r ≡ 0) ⊎ (number r ≡ 4) → sets r m d ≡ begin m d
-  sets-now Free k = refl
-  sets-now Configuring k = refl
-  sets-now (Listening t) (inl e) = absurd (omega arith)
-  sets-now (Listening t) (inr e) = absurd (omega arith)
-  sets-now (OnAir t) (inl e) = absurd (omega arith)
-  sets-now (OnAir t) (inr e) = absurd (omega arith)
-  sets-now Orphan (inl e) = absurd (omega arith)
-  sets-now Orphan (inr e) = absurd (omega arith)
 
 -- ---- the objection
 

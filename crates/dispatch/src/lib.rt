@@ -1,12 +1,12 @@
 // A command that was received: judged, and carried out. 01 "A run of bytes becomes a frame", steps 2
 // to 7, and "What each event does".
 ghost use mathlib.Core.Path.{_≡_};
-ghost use Prim.Native.Nat.{_≤_, _<_};
+ghost use Prim.Native.Nat.{_≤_};
 ghost use lib.ListN.{length};
 ghost use Rattle.device.specs.Events as E;
 ghost use Rattle.control.specs.Control.{Gives, unconfigured};
-ghost use Rattle.dispatch.specs.Commands.{Rules, open#, onTx, onSet, turned, atOnce, judged};
-use board::TX_MAX;
+ghost use Rattle.intake.specs.Intake.{Rules, open#};
+ghost use Rattle.dispatch.specs.Commands.{turned, atOnce, judged};
 use control::Air;
 use control::Answer;
 use control::Device;
@@ -20,9 +20,7 @@ use kind::RX_START;
 use kind::RX_STOP;
 use kind::SET_CONFIG;
 use kind::TX;
-use queue::CANCELLED;
 use slot::COMMANDS;
-use slot::SETTING;
 
 // A frame with a type, a tag and a payload: what draws an ERR does nothing else. A helper of the
 // events: they show that there is room.
@@ -47,10 +45,10 @@ pub fn dispatch(
         return control::accept(d, w, Order::Nothing);
     }
     if kind == TX {
-        return tx(d, tag, payload, commands, out);
+        return intake::tx(d, tag, payload, commands, out);
     }
     if kind == SET_CONFIG {
-        return set_config(d, tag, payload, commands, out);
+        return intake::set_config(d, tag, payload, commands, out);
     }
     at_once(d, kind, tag, out)
 }
@@ -98,72 +96,6 @@ fn count_open(a: Air) -> usize
         Radio::OnAir(_) => 1 + n,
         Radio::Orphan => n,
         Radio::Configuring => n,
-    }
-}
-
-// A TX that is taken.
-fn tx(d: Device, tag: u16, payload: &[u8], commands: &mut [u8; COMMANDS], out: &mut [u8]) -> Answer
-    requires { ⌜ 283 ≤ length (now out) ⌝ }
-    requires { ⌜ (1 ≤ length (now payload)) × (length (now payload) ≤ 256) ⌝ }
-    requires { ⌜ open# (d .air) < 16 ⌝ }
-    ensures { λ r. ⌜ Rules (onTx tag (now (payload .entry)) (now (commands .entry)) d) (now (out .entry)) r (now (out .exit)) (now (commands .exit)) ⌝ }
-{
-    let was = d.air;
-    let radio = was.radio;
-    let waiting = was.waiting;
-    let slot = (was.first as usize + waiting as usize) % TX_MAX;
-    slot::keep(slot, tag, payload, commands);
-    let w = wire::say_ok(tag, out, 0);
-    if control::is_free(radio) {
-        return queue::start(d, slot, waiting, commands, w);
-    }
-    let more = waiting + 1;
-    let air = Air {
-        radio,
-        pending: was.pending,
-        first: was.first,
-        waiting: more,
-    };
-    let e = control::with_air(d, air);
-    control::accept(e, w, Order::Nothing)
-}
-
-// A SET_CONFIG that is taken. Its OK comes when the radio is configured.
-fn set_config(
-    d: Device,
-    tag: u16,
-    payload: &[u8],
-    commands: &mut [u8; COMMANDS],
-    out: &mut [u8],
-) -> Answer
-    requires { ⌜ 283 ≤ length (now out) ⌝ }
-    requires { ⌜ (1 ≤ length (now payload)) × (length (now payload) ≤ 256) ⌝ }
-    ensures { λ r. ⌜ Rules (onSet tag (now (payload .entry)) (now (commands .entry)) d) (now (out .entry)) r (now (out .exit)) (now (commands .exit)) ⌝ }
-{
-    slot::keep(SETTING, tag, payload, commands);
-    let held = d.inbox;
-    let emptied = control::deaf(held);
-    let e = control::with_inbox(d, emptied);
-    let was = d.air;
-    let radio = was.radio;
-    match radio {
-        Radio::Listening(t) => {
-            let w = wire::say_done(CANCELLED, 0, t, out, 0);
-            return queue::configure(e, commands, out, w);
-        }
-        Radio::OnAir(_) | Radio::Orphan => {
-            let air = Air {
-                radio,
-                pending: true,
-                first: was.first,
-                waiting: was.waiting,
-            };
-            let f = control::with_air(e, air);
-            return control::accept(f, 0, Order::Nothing);
-        }
-        _ => {
-            return queue::configure(e, commands, out, 0);
-        }
     }
 }
 

@@ -19,7 +19,8 @@ use Rattle.device.specs.Events as E
 use Rattle.device.proofs.Ranges.{AirIn, ReceivedIn, received-in}
 use Rattle.control.specs.declared.Device.{Device}
 use Rattle.control.specs.Control.{link, withLink, stalled}
-use Rattle.dispatch.specs.Commands.{Ruled, onReceived}
+use Rattle.intake.specs.Intake.{Ruled}
+use Rattle.dispatch.specs.Commands.{onReceived}
 use Rattle.link.specs.Link.{judges, onRun, onZero, onByte}
 use Rattle.joint.proofs.Stands.{RunAs, as-run, as-long, Stands, Agrees, quietly}
 use Rattle.joint.proofs.Link.{opens, on-join}

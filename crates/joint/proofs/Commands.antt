@@ -36,7 +36,8 @@ use Rattle.control.specs.Control.{free?, runs?, stalled, deaf, withInbox, uncon
 use Rattle.slot.specs.Slots.{setting, slotBytes, kept}
 use Rattle.queue.specs.Queue.{start}
 use Rattle.objection.proofs.Laws.{none-set, none-tx, TxIn}
-use Rattle.dispatch.specs.Commands.{Ruled, ruled, open#, slotFor, waitsToo, onTx, pends, sets, onSet, turned, atOnce, onCommand, unless, judged}
+use Rattle.intake.specs.Intake.{Ruled, ruled, open#, slotFor, waitsToo, onTx, pends, sets, onSet}
+use Rattle.dispatch.specs.Commands.{turned, atOnce, onCommand, unless, judged}
 use Rattle.joint.specs.Seen.{orderIn}
 use Rattle.joint.proofs.Slots.{laid, wheel16, ring-push, ring-apart}
 use Rattle.joint.proofs.Stands.{SetAt, RadioAs, as-free, as-listening, as-onAir, as-orphan, as-configuring, PendingAs, as-none, as-some, txSlot, TxAt, Queue, AirAs, Stands, Agrees, quietly, empty-inbox, with-air, with-inbox, same-bare}

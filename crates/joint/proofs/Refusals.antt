@@ -30,7 +30,8 @@ use Rattle.control.specs.Control.{link, withLink, radioOf, deaf, withInbox, fre
 use Rattle.wire.specs.Wire.{bytesOf, sends}
 use Rattle.slot.specs.Slots.{setting, kept}
 use Rattle.queue.specs.Queue.{start, begin, next, afterTx}
-use Rattle.dispatch.specs.Commands.{Ruled, ruled, open#, slotFor, waitsToo, onTx, sets, onSet, turned, atOnce, onCommand, unless, judged, onReceived}
+use Rattle.intake.specs.Intake.{Ruled, ruled, open#, slotFor, waitsToo, onTx, sets, onSet}
+use Rattle.dispatch.specs.Commands.{turned, atOnce, onCommand, unless, judged, onReceived}
 use Rattle.outcome.specs.Outcomes.{onClear, onBusy, onSent, onFault, clearDone, busyDone, sentDone, faultDone}
 use Rattle.inbox.specs.Packets.{held, onPacket, onRequest, packetDone, requestDone}
 use Rattle.session.specs.Session.{endSession, onTick, onDisconnect, tickDone, disconnectDone}

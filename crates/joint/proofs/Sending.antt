@@ -37,7 +37,8 @@ use Rattle.session.specs.Session.{ended, endSession, onTick, onDisconnect, tick
 use Rattle.outcome.specs.Outcomes.{onClear, onBusy, onSent, onFault, clearDone, busyDone, sentDone, faultDone}
 use Rattle.configured.specs.Configured.{inForce, onConfigured, configuredDone}
 use Rattle.inbox.specs.Packets.{onPacket, onRequest, packetDone, requestDone}
-use Rattle.dispatch.specs.Commands.{Ruled, ruled, open#, slotFor, waitsToo, onTx, pends, sets, onSet, turned, atOnce, onCommand, unless, judged, onReceived}
+use Rattle.intake.specs.Intake.{Ruled, ruled, open#, slotFor, waitsToo, onTx, pends, sets, onSet}
+use Rattle.dispatch.specs.Commands.{turned, atOnce, onCommand, unless, judged, onReceived}
 use Rattle.link.specs.Link.{Fed, fed, joined, onJoin, onRun, onZero, onByte, byteDone}
 use Rattle.machine.specs.Machine.{Machine, Call, runsOn, runs}
 use Rattle.joint.specs.Sending.{holds, slotHeld, slotIn, starts, Names, Stays, PacketStays}

@@ -21,7 +21,8 @@ use Rattle.device.specs.Events.{roomMin}
 use Rattle.control.specs.declared.Device.{Device}
 use Rattle.control.specs.declared.Order.the-variants.{Nothing}
 use Rattle.control.specs.Control.{link, withLink, stalled, Done, taken, refused}
-use Rattle.dispatch.specs.Commands.{ruled, onReceived}
+use Rattle.intake.specs.Intake.{ruled}
+use Rattle.dispatch.specs.Commands.{onReceived}
 use Rattle.link.specs.Link.{fed, joined, onJoin, onRun, onZero, byteDone}
 
 -- ---- a run that was opened

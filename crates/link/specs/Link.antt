@@ -14,7 +14,8 @@ use Rattle.control.specs.declared.Device.{Device}
 use Rattle.control.specs.declared.Order.the-variants.{Nothing}
 use Rattle.control.specs.declared.Answer.{Answer}
 use Rattle.control.specs.Control.{link, withLink, stalled, Done, taken, refused, Gives}
-use Rattle.dispatch.specs.Commands.{Ruled, ruled, onReceived}
+use Rattle.intake.specs.Intake.{Ruled, ruled}
+use Rattle.dispatch.specs.Commands.{onReceived}
 
 -- what a byte gives, and the memories of the run and of commands that it leaves
 pub record Fed : Type 0 where

@@ -4,11 +4,11 @@ use native.Mathlib.Omega.{arith}
 use Rattle.wire.proofs.Laws.{sent-one, length-done}
 use Rattle.control.proofs.Laws.{quiet, then, gives}
 use Rattle.queue.specs.Queue.{begin}
-use Rattle.dispatch.specs.Commands.{onSet}
-use Rattle.dispatch.proofs.Laws.{sets-later, sets-now}
+use Rattle.intake.specs.Intake.{onSet}
+use Rattle.intake.proofs.Laws.{sets-later, sets-now}
 use borrow.Author.Needs.{needs}
-use Rattle.dispatch.proofs.set_config.Statement.{statement}
-use Rattle.dispatch.proofs.set_config.Tie as tie
+use Rattle.intake.proofs.set_config.Statement.{statement}
+use Rattle.intake.proofs.set_config.Tie as tie
 
 keep-requires : tie.Need-keep-requires
 keep-requires c κs = search needs

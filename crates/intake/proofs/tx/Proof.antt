@@ -2,11 +2,11 @@
 -- Assumes nothing.
 use Rattle.wire.proofs.Laws.{sent-one}
 use Rattle.control.proofs.Laws.{quiet, then}
-use Rattle.dispatch.specs.Commands.{onTx}
-use Rattle.dispatch.proofs.Laws.{starts}
+use Rattle.intake.specs.Intake.{onTx}
+use Rattle.intake.proofs.Laws.{starts}
 use borrow.Author.Needs.{needs}
-use Rattle.dispatch.proofs.tx.Statement.{statement}
-use Rattle.dispatch.proofs.tx.Tie as tie
+use Rattle.intake.proofs.tx.Statement.{statement}
+use Rattle.intake.proofs.tx.Tie as tie
 
 cast-slot : tie.Need-cast-slot
 cast-slot c = search needs
