@@ -1,32 +1,27 @@
--- What a payload has if its form is met, which OKs are empty, and the bytes of an OK to SET_CONFIG.
--- The idea: where the form is met, each test before it that leads to Wrong was false; and the bytes compute.
+-- What a payload has if its form is met, and which OKs are empty.
+-- The idea: where the form is met, each test before it that leads to Wrong was false.
 -- Assumes nothing.
 use mathlib.Core.Path.{_≡_, refl, sym}
 use mathlib.Core.Bool.{Bool, true, false, cond, true≢false}
 use mathlib.Core.List.{List, [], _∷_}
-use Prim.Native.Nat.{ℕ, _+_, _-_, _<_, _≤_}
-use native.Mathlib.Nat.{mod-eq-of-lt}
+use Prim.Native.Nat.{ℕ, _+_, _-_, _≤_}
 use native.Mathlib.Omega.{arith}
 use borrow.Author.Tests.{ltb-false, leb-true, le-leb}
 use denote.Enum.Declared.{tagOf}
 use types.Run.{OneOf, miss}
 use lib.Dec.{ltb}
 use lib.ListN.{length, drop, length-drop}
-use Rattle.buffer.specs.Lay.{lay}
-use Rattle.scalar.specs.Scalars.{le, column, get}
+use Rattle.scalar.specs.Scalars.{column, get}
 use Rattle.form.specs.Forms.{atLeast}
 use Rattle.form.specs.declared.Form.{Form}
 use Rattle.form.specs.declared.Form.the-variants as F
-use Rattle.modulation.specs.Modulations.{configForm, configBytes}
+use Rattle.modulation.specs.Modulations.{configForm}
 use Rattle.rx.specs.Rx.{rxSize, rxForm}
 use Rattle.kind.specs.declared.Name.{Name}
 use Rattle.kind.specs.declared.Name.the-variants as N
 use Rattle.kind.proofs.Name.{the-type}
-use Rattle.answer.specs.Answers.{configuredSize, configuredForm, configuredBytes, txDoneSize, txDoneForm, okForm, okOf}
-use Rattle.answer.specs.declared.Configured.{Configured}
+use Rattle.answer.specs.Answers.{configuredSize, configuredForm, txDoneSize, txDoneForm, okForm, okOf}
 use Rattle.answer.specs.declared.Answer.the-variants as A
-
--- ---- forms
 
 -- a form behind a test that leads to Wrong, and behind three
 passed : (a : Bool) (f : Form) (n : ℕ) → atLeast (cond a F.Wrong f) n ≡ true → (a ≡ false) × (atLeast f n ≡ true)
@@ -75,10 +70,3 @@ empty-ok N.SetConfig p k = absurd (miss bare 2 tt k)
 empty-ok N.Tx p k = (refl, refl)
 empty-ok N.RxStart p k = (refl, refl)
 empty-ok N.RxStop p k = (refl, refl)
-
--- ---- bytes
-
-pub configured-bytes : (m : Configured) (word : List ℕ) → m .result < 256 → m .owner < 256
-    → configuredBytes m word ≡ m .result ∷ m .owner ∷ configBytes (m .current) word
-unfolding configuredBytes lay le
-configured-bytes m word h k = rw (mod-eq-of-lt h, mod-eq-of-lt k)

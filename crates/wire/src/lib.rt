@@ -45,6 +45,6 @@ pub fn say_done(result: u8, airtime: u32, tag: u16, out: &mut [u8], at: usize) -
     requires { ⌜ at + 12 ≤ length (now out) ⌝ }
     ensures { λ r. ⌜ Says (seen (txDone result airtime tag)) (now (out .entry)) at r (now (out .exit)) ⌝ }
 {
-    let payload = answer::tx_done_bytes(result, airtime);
+    let payload = payload::tx_done_bytes(result, airtime);
     say(TX_DONE, tag, &payload, out, at)
 }

@@ -83,7 +83,7 @@ pub fn build_answer(a: Answer, tag: u16, bytes: &[u8], dst: &mut [u8]) -> Writte
     }
     let name = answer::answer_name(a);
     let mut memory = [0u8; MEMORY];
-    let n = answer::put_answer(a, bytes, &mut memory);
+    let n = payload::put_answer(a, bytes, &mut memory);
     build(Kinds::Answers(name), kind, tag, &memory[..n], dst)
 }
 
@@ -98,7 +98,7 @@ pub fn write_answer(a: Answer, tag: u16, bytes: &[u8], dst: &mut [u8]) -> Writte
     }
     let name = answer::answer_name(a);
     let mut memory = [0u8; MEMORY];
-    let n = answer::put_answer(a, bytes, &mut memory);
+    let n = payload::put_answer(a, bytes, &mut memory);
     write(Kinds::Answers(name), kind, tag, &memory[..n], dst)
 }
 

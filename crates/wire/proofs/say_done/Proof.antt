@@ -1,4 +1,4 @@
--- The payload of a TX_DONE is as crate answer writes it.
+-- The payload of a TX_DONE is as crate payload writes it.
 -- Assumes nothing.
 use mathlib.Core.List.{append-nil}
 use Rattle.answer.specs.Answers.{answerBytes}

@@ -4,10 +4,10 @@ use mathlib.Core.Path.{refl}
 use native.Mathlib.Nat.{zero-add}
 use Rattle.buffer.specs.Lay.{lay}
 use Rattle.scalar.specs.Scalars.{le}
 use Rattle.answer.specs.Answers.{answerBytes}
 use borrow.Author.Needs.{needs}
-use Rattle.answer.proofs.put_answer.Statement.{statement}
-use Rattle.answer.proofs.put_answer.Tie as tie
+use Rattle.payload.proofs.put_answer.Statement.{statement}
+use Rattle.payload.proofs.put_answer.Tie as tie
 
 enum-told : tie.Need-enum-told
 enum-told c = search needs

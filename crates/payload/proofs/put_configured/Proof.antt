@@ -1,14 +1,24 @@
 -- Two bytes, and the configuration after them.
 -- Assumes nothing.
-use mathlib.Core.Path.{_∙_}
-use mathlib.Core.List.{_∷_}
+use mathlib.Core.Path.{_≡_, _∙_}
+use mathlib.Core.List.{List, _∷_}
+use Prim.Native.Nat.{ℕ, _<_}
+use native.Mathlib.Nat.{mod-eq-of-lt}
 use native.Mathlib.Omega.{arith}
 use lib.ListN.{set, length-set}
+use Rattle.buffer.specs.Lay.{lay}
 use Rattle.buffer.proofs.Laws.{lay-next}
+use Rattle.scalar.specs.Scalars.{le}
 use Rattle.modulation.specs.Modulations.{configBytes}
-use Rattle.answer.proofs.Steps.{configured-bytes}
-use Rattle.answer.proofs.put_configured.Statement.{statement}
-use Rattle.answer.proofs.put_configured.Tie as tie
+use Rattle.answer.specs.Answers.{configuredBytes}
+use Rattle.answer.specs.declared.Configured.{Configured}
+use Rattle.payload.proofs.put_configured.Statement.{statement}
+use Rattle.payload.proofs.put_configured.Tie as tie
+
+configured-bytes : (m : Configured) (word : List ℕ) → m .result < 256 → m .owner < 256
+    → configuredBytes m word ≡ m .result ∷ m .owner ∷ configBytes (m .current) word
+unfolding configuredBytes lay le
+configured-bytes m word h k = rw (mod-eq-of-lt h, mod-eq-of-lt k)
 
 slice-write-dst : tie.Need-slice-write-dst
 slice-write-dst c =

@@ -6,10 +6,10 @@ use native.Mathlib.Nat.{mod-eq-of-lt}
 use lib.ListN.{getD}
 use Rattle.buffer.specs.Lay.{lay}
 use Rattle.scalar.specs.Scalars.{le}
 use Rattle.answer.specs.Answers.{txDoneBytes}
 use borrow.Author.Needs.{needs}
-use Rattle.answer.proofs.tx_done_bytes.Statement.{statement}
-use Rattle.answer.proofs.tx_done_bytes.Tie as tie
+use Rattle.payload.proofs.tx_done_bytes.Statement.{statement}
+use Rattle.payload.proofs.tx_done_bytes.Tie as tie
 
 bytes-of-u64-requires : tie.Need-bytes-of-u64-requires
 bytes-of-u64-requires c κs = search needs

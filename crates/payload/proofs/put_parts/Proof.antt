@@ -7,8 +7,8 @@ use lib.ListN.{length, length-append}
 use Rattle.buffer.specs.Lay.{lay}
 use Rattle.buffer.proofs.Laws.{lay-lay}
 use borrow.Author.Needs.{needs}
-use Rattle.answer.proofs.put_parts.Statement.{statement}
-use Rattle.answer.proofs.put_parts.Tie as tie
+use Rattle.payload.proofs.put_parts.Statement.{statement}
+use Rattle.payload.proofs.put_parts.Tie as tie
 
 copy-requires : tie.Need-copy-requires
 copy-requires c κs =
