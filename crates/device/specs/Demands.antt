@@ -171,7 +171,7 @@ history y is = after y (begins y) is
 
 -- ---- demand 2, the bytes: what an event writes is read back as the messages written
 
--- The writer of answers (crate writer) takes it into any memory that an event may be lent, and writes just these bytes; and the host's reader, with any command
+-- The writer of answers (crate compose) takes it into any memory that an event may be lent, and writes just these bytes; and the host's reader, with any command
 -- named that the answer may have, takes the frame, and has the same answer with the same bytes.
 pub record Back (m : Message) : Type 0 where
   pub written : (room : ℕ) → 283 ≤ room → writeAnswer (K.Answers (answerName (m .answer))) (answerKind (m .answer)) (m .tag) (payload m) room ≡ W.Done (length (wire m))

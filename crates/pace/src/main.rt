@@ -41,7 +41,7 @@ fn add(c: Count, a: Answer) -> Count {
 
 // Writes the frame of a command, and answers how long it is.
 fn frame_of(command: Command, bytes: &[u8], out: &mut [u8]) -> usize {
-    match writer::write_command(command, 1, bytes, out) {
+    match compose::write_command(command, 1, bytes, out) {
         Written::Done(n) => n,
         Written::Refused(_) => 0,
     }

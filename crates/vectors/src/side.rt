@@ -34,8 +34,8 @@ fn number_of(w: Written) -> u8 {
 // Writes the body of an item, and answers how long it is.
 pub(crate) fn build(item: Item, tag: u16, bytes: &[u8], memory: &mut [u8]) -> usize {
     match item {
-        Item::Command(c) => written(writer::build_command(c, tag, bytes, memory)),
-        Item::Answer { answer, name: _ } => written(writer::build_answer(
+        Item::Command(c) => written(compose::build_command(c, tag, bytes, memory)),
+        Item::Answer { answer, name: _ } => written(compose::build_answer(
             answer,
             tag,
             bytes,
@@ -48,8 +48,8 @@ pub(crate) fn build(item: Item, tag: u16, bytes: &[u8], memory: &mut [u8]) -> us
 // Writes the frame of an item, and answers how long it is.
 pub(crate) fn write(item: Item, tag: u16, bytes: &[u8], memory: &mut [u8]) -> usize {
     match item {
-        Item::Command(c) => written(writer::write_command(c, tag, bytes, memory)),
-        Item::Answer { answer, name: _ } => written(writer::write_answer(
+        Item::Command(c) => written(compose::write_command(c, tag, bytes, memory)),
+        Item::Answer { answer, name: _ } => written(compose::write_answer(
             answer,
             tag,
             bytes,
@@ -134,5 +134,5 @@ pub(crate) fn write_number(kind: u8, tag: u16, payload: &[u8]) -> u8 {
 // The number that it answers to the fields of a command.
 pub(crate) fn command_number(c: Command, tag: u16, bytes: &[u8]) -> u8 {
     let mut memory = [0u8; FRAME_MAX];
-    number_of(writer::write_command(c, tag, bytes, &mut memory))
+    number_of(compose::write_command(c, tag, bytes, &mut memory))
 }

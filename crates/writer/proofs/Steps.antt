@@ -1,42 +1,19 @@
 -- What writing answers and leaves, by the verdict: each law is one way through the code.
 -- Assumes nothing.
-use mathlib.Core.Path.{_≡_, refl}
-use mathlib.Core.Bool.{Bool, true, false, cond}
+use mathlib.Core.Path.{_≡_}
 use mathlib.Core.List.{List}
 use Prim.Native.Nat.{ℕ}
 use lib.ListN.{length}
 use Rattle.numbers.specs.declared.Refusal.{Refusal}
-use Rattle.numbers.specs.declared.Refusal.the-variants as R
 use Rattle.frame.specs.Body.{body}
 use Rattle.frame.specs.Writing.{buildAnswer, buildLeft, frameAnswer, frameLeft}
 use Rattle.frame.specs.declared.Written.the-variants as W
-use Rattle.kind.specs.Kinds.{tagWrong}
-use Rattle.verdict.specs.Judging.{has, fitsWritten, judge}
+use Rattle.verdict.specs.Judging.{fitsWritten, judge}
 use Rattle.verdict.specs.declared.Kinds.{Kinds}
 use Rattle.verdict.specs.declared.Judged.the-variants as J
 use Rattle.writer.specs.Writing.{bodyAnswer, bodyLeft, writeAnswer, writeLeft}
 
 module _ (kinds : Kinds) (k t : ℕ) (p d : List ℕ) where
-  -- a message that is of the writer's types, and whose payload is wrong
-  module _ (h : has kinds k ≡ true) (f : fitsWritten kinds k p ≡ false) where
-    pub wrong-body : (W.Refused (cond (tagWrong k t) R.Tag R.Form) ≡ bodyAnswer kinds k t p (length d)) × (d ≡ bodyLeft kinds k t p d)
-    unfolding bodyAnswer bodyLeft judge
-    wrong-body = go (tagWrong k t) refl
-      where
-        go : (b : Bool) → tagWrong k t ≡ b
-            → (W.Refused (cond (tagWrong k t) R.Tag R.Form) ≡ bodyAnswer kinds k t p (length d)) × (d ≡ bodyLeft kinds k t p d)
-        go true e = (rw e, rw e)
-        go false e = (rw (e, h, f), rw (e, h, f))
-
-    pub wrong-frame : (W.Refused (cond (tagWrong k t) R.Tag R.Form) ≡ writeAnswer kinds k t p (length d)) × (d ≡ writeLeft kinds k t p d)
-    unfolding writeAnswer writeLeft judge
-    wrong-frame = go (tagWrong k t) refl
-      where
-        go : (b : Bool) → tagWrong k t ≡ b
-            → (W.Refused (cond (tagWrong k t) R.Tag R.Form) ≡ writeAnswer kinds k t p (length d)) × (d ≡ writeLeft kinds k t p d)
-        go true e = (rw e, rw e)
-        go false e = (rw (e, h, f), rw (e, h, f))
-
   module _ {r : Refusal} (j : judge kinds k t (fitsWritten kinds k p) ≡ J.Refused r) where
     pub no-body : (bodyAnswer kinds k t p (length d) ≡ W.Refused r) × (bodyLeft kinds k t p d ≡ d)
     unfolding bodyAnswer bodyLeft

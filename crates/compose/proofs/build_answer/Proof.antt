@@ -9,10 +9,10 @@ use Rattle.answer.specs.Answers.{answerBytes, answerKind, answerName}
 use Rattle.answer.proofs.Laws.{answer-is, answer-length, answer-long}
 use Rattle.verdict.specs.Judging.{has, formOf, fitsWritten}
 use Rattle.verdict.specs.declared.Kinds.the-variants as K
-use Rattle.writer.proofs.Steps.{wrong-frame}
+use Rattle.compose.proofs.Steps.{wrong-body}
 use borrow.Author.Needs.{needs}
-use Rattle.writer.proofs.write_answer.Statement.{statement}
-use Rattle.writer.proofs.write_answer.Tie as tie
+use Rattle.compose.proofs.build_answer.Statement.{statement}
+use Rattle.compose.proofs.build_answer.Tie as tie
 
 answer-kind-requires : tie.Need-answer-kind-requires
 answer-kind-requires c κs = search needs
@@ -24,7 +24,7 @@ returns : tie.Need-returns
 unfolding has formOf fitsWritten
 returns c =
     let s = c .before .before .before .before .before .args in
-    let l = wrong-frame (K.Answers (answerName (s .a))) (answerKind (s .a)) (s .tag) (answerBytes (s .a) (s .bytes .now)) (s .dst .now) (answer-is (s .a)) (answer-long (s .a) (s .bytes .now) (c .before .if1 .taken)) in
+    let l = wrong-body (K.Answers (answerName (s .a))) (answerKind (s .a)) (s .tag) (answerBytes (s .a) (s .bytes .now)) (s .dst .now) (answer-is (s .a)) (answer-long (s .a) (s .bytes .now) (c .before .if1 .taken)) in
     (rw (c .before .before .answer-kind .ensures) at (c .too-long .ensures) ∙ l .0, l .1)
 
 answer-name-requires : tie.Need-answer-name-requires
@@ -43,14 +43,14 @@ array-share-prefix-memory c =
     let s = c .before .before .before .before .before .before .before .before .args in
     rw (c .before .put-answer .kept .1 .1 .0, c .before .put-answer .ensures .0) (omega (arith, answer-length (s .a) (s .bytes .now) .0, c .before .before .before .before .if1 .left))
 
-slice-aggregate-write : tie.Need-slice-aggregate-write
-slice-aggregate-write c =
+slice-aggregate-build : tie.Need-slice-aggregate-build
+slice-aggregate-build c =
     let s = c .before .before .before .before .before .before .before .before .before .args in
     let w = c .before .before .put-answer in
     sym (length-take-le (w .result) (w .last .1 .1 .0) (rw (w .kept .1 .1 .0, w .ensures .0) (omega (arith, answer-length (s .a) (s .bytes .now) .0, c .before .before .before .before .before .if1 .left))))
 
-write-requires : tie.Need-write-requires
-write-requires c κs = search needs
+build-requires : tie.Need-build-requires
+build-requires c κs = search needs
 
 same-length : tie.Need-same-length
 same-length c = search needs
@@ -60,10 +60,10 @@ returns-2 c =
     let s = c .before .before .before .before .before .before .before .before .before .before .before .before .before .args in
     let w = c .before .before .before .before .before .before .put-answer in
     let p : take (w .result) (w .last .1 .1 .0) ≡ answerBytes (s .a) (s .bytes .now) = rw (w .ensures .0, w .ensures .1) (take-laid (answerBytes (s .a) (s .bytes .now)) (replicate 292 0)) in
-    rw (c .before .before .before .before .before .before .before .before .answer-name .ensures, c .before .before .before .before .before .before .before .before .before .before .answer-kind .ensures, p) at (c .before .before .write .ensures)
+    rw (c .before .before .before .before .before .before .before .before .answer-name .ensures, c .before .before .before .before .before .before .before .before .before .before .answer-kind .ensures, p) at (c .before .before .build .ensures)
 
-pub write-answer-spec : {M : Type 1} → statement M
-write-answer-spec =
+pub build-answer-spec : {M : Type 1} → statement M
+build-answer-spec =
     tie.close
     (tie.spec
     answer-kind-requires
@@ -73,7 +73,7 @@ write-answer-spec =
     slice-aggregate-put-answer
     put-answer-requires
     array-share-prefix-memory
-    slice-aggregate-write
-    write-requires
+    slice-aggregate-build
+    build-requires
     same-length
     returns-2)

@@ -2,8 +2,8 @@
 -- Assumes nothing.
 use mathlib.Core.Path.{sym, _∙_}
 use borrow.Author.Needs.{needs}
-use Rattle.writer.proofs.too_long.Statement.{statement}
-use Rattle.writer.proofs.too_long.Tie as tie
+use Rattle.compose.proofs.too_long.Statement.{statement}
+use Rattle.compose.proofs.too_long.Tie as tie
 
 tag-wrong-requires : tie.Need-tag-wrong-requires
 tag-wrong-requires c κs = search needs

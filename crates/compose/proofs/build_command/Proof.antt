@@ -9,10 +9,10 @@ use Rattle.command.specs.Commands.{commandBytes, commandKind}
 use Rattle.command.proofs.Laws.{command-is, command-length, command-long}
 use Rattle.verdict.specs.Judging.{has, formOf, fitsWritten}
 use Rattle.verdict.specs.declared.Kinds.the-variants as K
-use Rattle.writer.proofs.Steps.{wrong-body}
+use Rattle.compose.proofs.Steps.{wrong-body}
 use borrow.Author.Needs.{needs}
-use Rattle.writer.proofs.build_command.Statement.{statement}
-use Rattle.writer.proofs.build_command.Tie as tie
+use Rattle.compose.proofs.build_command.Statement.{statement}
+use Rattle.compose.proofs.build_command.Tie as tie
 
 command-kind-requires : tie.Need-command-kind-requires
 command-kind-requires c κs = search needs
