@@ -33,7 +33,7 @@ fn open_run(n: u64, run: &[u8]) -> Opened
         return Opened::Refused(Refusal::Length);
     }
     let mut memory = [0u8; ENCODED_MAX];
-    frame::unpack(&run[..n as usize], ENCODED_MAX, &mut memory)
+    open::unpack(&run[..n as usize], ENCODED_MAX, &mut memory)
 }
 
 // Writes the line of a run at an offset: n is its length, and run has its first bytes. An empty run

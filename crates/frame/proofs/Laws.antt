@@ -179,12 +179,3 @@ pub payload-seen : (run : List ℕ) (room : ℕ) (memory : List ℕ) {k t n : �
 payload-seen run room memory {k} {t} {n} e m =
     let same : 3 + n - 3 ≡ n = omega arith in
     rw (same, m) (unpack-payload run room (replicate encodedMax 0) e (le-refl encodedMax))
-
--- lent memory then, and after a refusal
-pub open-lays : (run d : List ℕ) {k t n : ℕ} → openAnswer run (length d) ≡ O.Body k t n → openLeft run d ≡ lay 0 (decoded run) d
-unfolding openLeft
-open-lays run d e = simp e
-
-pub open-keeps : (run d : List ℕ) {r : Refusal} → openAnswer run (length d) ≡ O.Refused r → openLeft run d ≡ d
-unfolding openLeft
-open-keeps run d e = simp e

@@ -4,13 +4,9 @@ ghost use mathlib.Core.Path.{_≡_};
 ghost use Prim.Native.Nat.{_≤_};
 ghost use lib.ListN.{length};
 ghost use Rattle.buffer.specs.Lay.{lay};
-ghost use Rattle.cobs.specs.Answers.{encodedMax};
 ghost use Rattle.frame.specs.Body.{covered, body};
 ghost use Rattle.frame.specs.Writing.{buildAnswer, buildLeft, frameAnswer, frameLeft};
-ghost use Rattle.frame.specs.Reading.{openBody, openAnswer, openLeft, unpackLeft};
 use cobs::BODY_MAX;
-use cobs::Decoded;
-use cobs::ENCODED_MAX;
 use numbers::Refusal;
 
 // What a body has beside its payload: type, tag and check value.
@@ -20,7 +16,7 @@ pub const PAYLOAD: usize = 3;
 // The longest payload: a body has 280 bytes at most.
 pub const PAYLOAD_MAX: usize = 275;
 // The bytes of a check value.
-const CHECK_SIZE: usize = 2;
+pub const CHECK_SIZE: usize = 2;
 
 // What writing answers.
 pub enum Written {
@@ -108,60 +104,4 @@ pub fn write(kind: u8, tag: u16, payload: &[u8], dst: &mut [u8]) -> Written
     let mut memory = [0u8; BODY_MAX];
     build_into(kind, tag, payload, &mut memory);
     encode(&memory[..n + OVERHEAD], dst)
-}
-
-// Reads a run, a frame without its zero, into lent memory, whatever message it holds.
-pub fn open(run: &[u8], dst: &mut [u8]) -> Opened
-    ensures { λ r. ⌜ r ≡ openAnswer (now (run .entry)) (length (now (dst .entry))) ⌝ }
-    ensures { λ r. ⌜ now (dst .exit) ≡ openLeft (now (run .entry)) (now (dst .entry)) ⌝ }
-{
-    let mut memory = [0u8; ENCODED_MAX];
-    let opened = unpack(run, dst.len(), &mut memory);
-    let Opened::Body { kind, tag, len } = opened else {
-        return opened;
-    };
-    buffer::copy(&memory[..len + OVERHEAD], dst, 0);
-    Opened::Body { kind, tag, len }
-}
-
-// Looks at a run for so much room, with its body in working memory. A helper of the crates above,
-// for readers that refuse a body for further reasons before they write a byte.
-pub fn unpack(run: &[u8], room: usize, memory: &mut [u8]) -> Opened
-    requires { ⌜ encodedMax ≤ length (now memory) ⌝ }
-    ensures { λ r. ⌜ r ≡ openAnswer (now (run .entry)) room ⌝ }
-    ensures { λ r. ⌜ now (memory .exit) ≡ unpackLeft (now (run .entry)) room (now (memory .entry)) ⌝ }
-{
-    if ENCODED_MAX < run.len() {
-        return Opened::Refused(Refusal::Length);
-    }
-    if room < run.len() {
-        return Opened::Refused(Refusal::Short);
-    }
-    let decoded = cobs::decode(run, memory);
-    let Decoded::Done(n) = decoded else {
-        return Opened::Refused(Refusal::Stuff);
-    };
-    open_body(&memory[..n])
-}
-
-// Looks at a body: its length, then its check value.
-fn open_body(body: &[u8]) -> Opened
-    ensures { λ r. ⌜ r ≡ openBody (now (body .entry)) ⌝ }
-{
-    let len = body.len();
-    if len < OVERHEAD {
-        return Opened::Refused(Refusal::Length);
-    }
-    if BODY_MAX < len {
-        return Opened::Refused(Refusal::Length);
-    }
-    let end = len - CHECK_SIZE;
-    if crc16::crc16(&body[..end]) == scalar::u16_at(body, end) {
-        return Opened::Body {
-            kind: body[0],
-            tag: scalar::u16_at(body, 1),
-            len: len - OVERHEAD,
-        };
-    }
-    Opened::Refused(Refusal::Check)
 }

@@ -113,7 +113,7 @@ fn receive(d: Device, run: &[u8], n: usize, commands: &mut [u8; COMMANDS], out: 
     ensures { λ r. ⌜ Rules (onReceived (F.received (take n (now (run .entry)))) (now (commands .entry)) d) (now (out .entry)) r (now (out .exit)) (now (commands .exit)) ⌝ }
 {
     let mut memory = [0u8; ENCODED_MAX];
-    let opened = frame::unpack(&run[..n], ENCODED_MAX, &mut memory);
+    let opened = open::unpack(&run[..n], ENCODED_MAX, &mut memory);
     let Opened::Body { kind, tag, len } = opened else {
         return damaged(d, out);
     };

@@ -18,7 +18,7 @@ pub fn receive(kinds: Kinds, run: &[u8], dst: &mut [u8]) -> Opened
     ensures { λ r. ⌜ now (dst .exit) ≡ receiveLeft kinds (now (run .entry)) (now (dst .entry)) ⌝ }
 {
     let mut memory = [0u8; ENCODED_MAX];
-    let opened = frame::unpack(run, dst.len(), &mut memory);
+    let opened = open::unpack(run, dst.len(), &mut memory);
     let Opened::Body { kind, tag, len } = opened else {
         return opened;
     };

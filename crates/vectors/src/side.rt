@@ -99,7 +99,7 @@ fn is_answer(a: Answer, name: Name, tag: u16, bytes: &[u8], run: &[u8]) -> bool 
 // Whether a frame, whatever message it holds, has this type, tag and payload.
 fn is_wrong(kind: u8, tag: u16, payload: &[u8], run: &[u8]) -> bool {
     let mut memory = [0u8; FRAME_MAX];
-    let opened = frame::open(run, &mut memory);
+    let opened = open::open(run, &mut memory);
     let Opened::Body {
         kind: k,
         tag: t,

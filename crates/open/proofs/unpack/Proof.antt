@@ -3,11 +3,11 @@
 use mathlib.Core.Path.{sym, _∙_}
 use borrow.Author.Tests.{lt-ltb, le-ltb}
 use lib.Seq.{length-take-le}
 use Rattle.frame.specs.Reading.{openAnswer, unpackLeft}
-use Rattle.frame.proofs.Decoding.{is-broken, is-sound, inside, body-read}
+use Rattle.open.proofs.Decoding.{is-broken, is-sound, inside, body-read}
 use borrow.Author.Needs.{needs}
-use Rattle.frame.proofs.unpack.Statement.{statement}
-use Rattle.frame.proofs.unpack.Tie as tie
+use Rattle.open.proofs.unpack.Statement.{statement}
+use Rattle.open.proofs.unpack.Tie as tie
 
 returns : tie.Need-returns
 unfolding openAnswer unpackLeft

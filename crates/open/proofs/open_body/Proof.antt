@@ -5,10 +5,10 @@ use native.Mathlib.Omega.{arith}
 use borrow.Author.Tests.{lt-ltb, le-ltb, eq-eqb, ne-eqb}
 use lib.Seq.{length-take-le}
 use Rattle.scalar.proofs.Laws.{get-byte}
 use Rattle.frame.specs.Reading.{openBody}
 use borrow.Author.Needs.{needs}
-use Rattle.frame.proofs.open_body.Statement.{statement}
-use Rattle.frame.proofs.open_body.Tie as tie
+use Rattle.open.proofs.open_body.Statement.{statement}
+use Rattle.open.proofs.open_body.Tie as tie
 
 returns : tie.Need-returns
 unfolding openBody

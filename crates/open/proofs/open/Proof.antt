@@ -1,15 +1,31 @@
 -- A run that opens has its body in working memory, and that body has room.
 -- Assumes nothing.
-use mathlib.Core.Path.{sym, _∙_}
+use mathlib.Core.Path.{_≡_, sym, _∙_}
+use mathlib.Core.List.{List}
+use Prim.Native.Nat.{ℕ}
 use native.Mathlib.Nat.{le-refl}
 use native.Mathlib.Omega.{arith}
-use lib.ListN.{length-take}
+use lib.ListN.{length, length-take}
 use lib.Seq.{length-take-le}
+use Rattle.numbers.specs.declared.Refusal.{Refusal}
+use Rattle.buffer.specs.Lay.{lay}
+use Rattle.cobs.specs.Decoding.{decoded}
 use Rattle.cobs.specs.Answers.{encodedMax}
-use Rattle.frame.proofs.Laws.{opens-facts, unpack-body, open-lays, open-keeps}
+use Rattle.frame.specs.Reading.{openAnswer, openLeft}
+use Rattle.frame.specs.declared.Opened.the-variants as O
+use Rattle.frame.proofs.Laws.{opens-facts, unpack-body}
 use borrow.Author.Needs.{needs}
-use Rattle.frame.proofs.open.Statement.{statement}
-use Rattle.frame.proofs.open.Tie as tie
+use Rattle.open.proofs.open.Statement.{statement}
+use Rattle.open.proofs.open.Tie as tie
+
+-- lent memory after an answer: a body, and a refusal
+open-lays : (run d : List ℕ) {k t n : ℕ} → openAnswer run (length d) ≡ O.Body k t n → openLeft run d ≡ lay 0 (decoded run) d
+unfolding openLeft
+open-lays run d e = simp e
+
+open-keeps : (run d : List ℕ) {r : Refusal} → openAnswer run (length d) ≡ O.Refused r → openLeft run d ≡ d
+unfolding openLeft
+open-keeps run d e = simp e
 
 slice-aggregate-unpack : tie.Need-slice-aggregate-unpack
 slice-aggregate-unpack c = search needs
