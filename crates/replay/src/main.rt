@@ -1,4 +1,5 @@
-// Replays a script of device events, from standard input, and writes the trace of the answers.
+// Replays scripts of device events, and writes the trace of the answers: from standard input, or from
+// the files that the arguments name, each from power-up on, where - is standard input.
 ghost use mathlib.Core.Path.{_≡_};
 ghost use lib.ListN.{length};
 
@@ -18,6 +19,8 @@ use slot::COMMANDS;
 const LINE: usize = 600000;
 // How many bytes such a line may have: two digits and a blank each.
 const BYTES: usize = 200000;
+// The longest name of a script.
+const NAME: usize = 4095;
 // So many pieces are read at most. No script has as many: a proved loop has to end.
 const PIECES: u64 = 1 << 62;
 
@@ -185,8 +188,8 @@ fn feed(
 }
 
 // The next piece: how many bytes of it there are, and 0 at the end.
-fn read(piece: &mut [u8]) -> usize {
-    let got = libc::read(STDIN_FILENO, piece);
+fn read(fd: i32, piece: &mut [u8]) -> usize {
+    let got = libc::read(fd, piece);
     if got < 0 {
         io::write_all(STDERR_FILENO, b"replay: read failed\n");
     }
@@ -203,8 +206,9 @@ fn turn(
     packets: &mut [u8; PACKETS],
     out: &mut [u8],
     piece: &mut [u8],
+    fd: i32,
 ) -> Next {
-    let n = read(piece);
+    let n = read(fd, piece);
     if n == 0 {
         return Next::Done(s);
     }
@@ -223,6 +227,7 @@ fn turn(
 
 // The whole script.
 fn replay(
+    fd: i32,
     line: &mut [u8],
     bytes: &mut [u8],
     run: &mut [u8; RUN_MAX],
@@ -235,7 +240,7 @@ fn replay(
     let mut i: u64 = 0;
     while i < PIECES {
         i += 1;
-        match turn(s, line, bytes, run, commands, packets, out, piece) {
+        match turn(s, line, bytes, run, commands, packets, out, piece, fd) {
             Next::More(t) => {
                 s = t;
             }
@@ -263,6 +268,73 @@ fn end(
     end_line(s, line, bytes, run, commands, packets, out)
 }
 
+// Replays the script that a descriptor has, from power-up on.
+fn script(
+    fd: i32,
+    line: &mut [u8],
+    bytes: &mut [u8],
+    run: &mut [u8; RUN_MAX],
+    commands: &mut [u8; COMMANDS],
+    packets: &mut [u8; PACKETS],
+    out: &mut [u8],
+    piece: &mut [u8],
+) {
+    let s = replay(fd, line, bytes, run, commands, packets, out, piece);
+    let t = end(s, line, bytes, run, commands, packets, out);
+    let replay = t.replay;
+    print::events(replay.events);
+}
+
+// The descriptor of the script with this name, or -1.
+fn open(name: &[u8]) -> i32 {
+    if name.len() == 1 {
+        if name[0] == b'-' {
+            return STDIN_FILENO;
+        }
+    }
+    let fd = os::open_read(name);
+    if fd < 0 {
+        os::fail(name);
+    }
+    fd
+}
+
+// The descriptor of the script that argument i names, or -1.
+fn argument(i: usize) -> i32 {
+    let mut name = [0u8; NAME];
+    let n = os::arg(i, &mut name);
+    open(buffer::part(&name, 0, n))
+}
+
+// A script has been replayed: its file is closed.
+fn close(fd: i32) {
+    if fd != STDIN_FILENO {
+        libc::close(fd);
+    }
+}
+
+// Replays the scripts that the arguments name, one after the other.
+fn scripts(
+    line: &mut [u8],
+    bytes: &mut [u8],
+    run: &mut [u8; RUN_MAX],
+    commands: &mut [u8; COMMANDS],
+    packets: &mut [u8; PACKETS],
+    out: &mut [u8],
+    piece: &mut [u8],
+) {
+    let n = os::arg_count();
+    let mut i = 1;
+    while i < n {
+        let fd = argument(i);
+        i += 1;
+        if 0 <= fd {
+            script(fd, line, bytes, run, commands, packets, out, piece);
+            close(fd);
+        }
+    }
+}
+
 fn main() {
     let mut line = empty_line();
     let mut bytes = empty_bytes();
@@ -271,7 +343,20 @@ fn main() {
     let mut packets = inbox::empty_packets();
     let mut out = io::buffer();
     let mut piece = io::large_buffer();
-    let s = replay(
+    if os::arg_count() < 2 {
+        script(
+            STDIN_FILENO,
+            &mut line,
+            &mut bytes,
+            &mut run,
+            &mut commands,
+            &mut packets,
+            &mut out,
+            &mut piece,
+        );
+        return;
+    }
+    scripts(
         &mut line,
         &mut bytes,
         &mut run,
@@ -280,15 +365,4 @@ fn main() {
         &mut out,
         &mut piece,
     );
-    let t = end(
-        s,
-        &line,
-        &mut bytes,
-        &mut run,
-        &mut commands,
-        &mut packets,
-        &mut out,
-    );
-    let replay = t.replay;
-    print::events(replay.events);
 }

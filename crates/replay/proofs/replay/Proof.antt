@@ -10,11 +10,11 @@ use Rattle.replay.proofs.replay.Statement.{statement}
 use Rattle.replay.proofs.replay.Tie as tie
 
 abbrev Inv-loop : tie.InvT-loop
-Inv-loop line₀ bytes₀ run₀ commands₀ packets₀ out₀ piece₀ s₀ i₀ line bytes run commands packets out piece s i =
+Inv-loop fd line₀ bytes₀ run₀ commands₀ packets₀ out₀ piece₀ s₀ i₀ line bytes run commands packets out piece s i =
     (i ≤ 4611686018427387904) × ((length line ≡ length line₀) × ((length bytes ≡ length bytes₀) × ((length out ≡ length out₀) × (length piece ≡ length piece₀))))
 
 abbrev μ-loop : tie.MeasureT-loop
-μ-loop line₀ bytes₀ run₀ commands₀ packets₀ out₀ piece₀ s₀ i₀ line bytes run commands packets out piece s i =
+μ-loop fd line₀ bytes₀ run₀ commands₀ packets₀ out₀ piece₀ s₀ i₀ line bytes run commands packets out piece s i =
     4611686018427387904 - i
 
 start-requires : tie.Need-start-requires Inv-loop μ-loop
