@@ -17,14 +17,15 @@ use Rattle.frame.proofs.Laws.{take-laid}
 use Rattle.board.specs.Board.{sx1262}
 use Rattle.device.specs.State.{Config, Setting, Tx, State, Packet, Event, byte, tick, clear, busy, sent, configured, fault, packet, request, disconnect}
 use Rattle.device.specs.State as S
-use Rattle.device.specs.Messages.{Message, seen, wire, wires}
+use Rattle.device.specs.Messages.{wires}
 use Rattle.device.specs.Events.{Out, Reply, reply, step, onEvent, unlessRoom}
 use Rattle.device.specs.Events as E
 use Rattle.device.proofs.Keeping.{Shape, is-free, is-listening, is-onAir, is-orphan, is-alone, is-configuring, Shaped}
 use Rattle.device.proofs.Keeping as K
 use Rattle.device.proofs.Ranges.{StateIn, at-power-up, sx1262-in}
 use Rattle.device.proofs.Ranges as R
-use Rattle.wire.specs.Wire.{bytesOf, sends}
+use Rattle.wire.specs.Wire.{sends}
+use Rattle.wire.proofs.Laws.{sends-seen}
 use Rattle.control.specs.declared.Radio.{Radio}
 use Rattle.control.specs.declared.Radio.the-variants.{Free, Listening, OnAir, Orphan, Configuring}
 use Rattle.control.specs.declared.Device.{Device}
@@ -44,13 +45,6 @@ use Rattle.joint.proofs.Inbox.{same-free, on-packet, on-request}
 use Rattle.joint.proofs.Link.{same-stalled, on-tick, on-disconnect}
 use Rattle.joint.proofs.Byte.{on-byte}
 
--- ---- what is written
-
-sends-wires : (ms : List Message) → sends (map seen ms) ≡ wires ms
-unfolding sends bytesOf wires wire
-sends-wires [] = refl
-sends-wires (m ∷ ms) = ap (λ (bs : List ℕ). wire m ++ bs) (sends-wires ms)
-
 -- ---- one call
 
 -- a machine stands for a state
@@ -64,7 +58,7 @@ pub record Alike (x : Ran) (o : Out) : Type 0 where
 
 module _ {x : Done} {run m p : List ℕ} {o : Out} (a : Agrees x run m p o) (out : List ℕ) where
   same-bytes : sends (x .said) ≡ wires (o .written)
-  same-bytes = ap sends (a .said) ∙ sends-wires (o .written)
+  same-bytes = ap sends (a .said) ∙ sends-seen (o .written)
 
   speaking : Alike (speaks x out run m p) o
   unfolding replyOf

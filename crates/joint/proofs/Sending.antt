@@ -12,7 +12,7 @@ use borrow.Author.Tests.{ltb-true, eqb-true}
 use lib.Dec.{leb, ltb, eqb}
 use lib.ListN.{length, take, drop, length-drop, take-append-drop}
 use lib.Seq.{length-take-le, take-at}
-use Rattle.numbers.specs.Numbers.{ROOM, STALL}
+use Rattle.numbers.specs.Numbers.{ROOM, STALL, PLACE}
 use Rattle.form.proofs.Laws.{exactly-size}
 use Rattle.kind.specs.Kinds.{SET-CONFIG, TX, RX-START, RX-STOP, GET-INFO}
 use Rattle.modulation.specs.Modulations.{configForm}
@@ -37,9 +37,9 @@ use Rattle.session.specs.Session.{ended, endSession, onTick, onDisconnect, tick
 use Rattle.outcome.specs.Outcomes.{onClear, onBusy, onSent, onFault, clearDone, busyDone, sentDone, faultDone}
 use Rattle.configured.specs.Configured.{inForce, onConfigured, configuredDone}
 use Rattle.inbox.specs.Packets.{onPacket, onRequest, packetDone, requestDone}
-use Rattle.intake.specs.Intake.{Ruled, ruled, open#, slotFor, waitsToo, onTx, pends, sets, onSet}
+use Rattle.intake.specs.Intake.{Ruled, ruled, open#, slotFor, waitsToo, onTx, sets, onSet}
 use Rattle.dispatch.specs.Commands.{turned, atOnce, onCommand, unless, judged, onReceived}
-use Rattle.link.specs.Link.{Fed, fed, joined, onJoin, onRun, onZero, onByte, byteDone}
+use Rattle.link.specs.Link.{Fed, joined, onJoin, onRun, onZero, onByte, byteDone}
 use Rattle.machine.specs.Machine.{Machine, Call, runsOn, runs}
 use Rattle.joint.specs.Sending.{holds, slotHeld, slotIn, starts, Names, Stays, PacketStays}
 use Rattle.joint.proofs.Slots.{Slot, wheel16, slot-kept}
@@ -103,35 +103,35 @@ module _ (m : List ℕ) (d : Device) where
   -- ---- the outcomes
 
   stay-clear : (r : Radio) → Stay (onClear r d) m
-  stay-clear Free = rests (refused 3 d) refl refl
+  stay-clear Free = rests (refused PLACE d) refl refl
   stay-clear (Listening t) = rests (onClear (Listening t) d) refl refl
-  stay-clear (OnAir t) = rests (refused 3 d) refl refl
-  stay-clear Orphan = rests (refused 3 d) refl refl
-  stay-clear Configuring = rests (refused 3 d) refl refl
+  stay-clear (OnAir t) = rests (refused PLACE d) refl refl
+  stay-clear Orphan = rests (refused PLACE d) refl refl
+  stay-clear Configuring = rests (refused PLACE d) refl refl
 
   stay-busy : (r : Radio) → Stay (onBusy r m d) m
-  stay-busy Free = rests (refused 3 d) refl refl
+  stay-busy Free = rests (refused PLACE d) refl refl
   stay-busy (Listening t) = after
-  stay-busy (OnAir t) = rests (refused 3 d) refl refl
-  stay-busy Orphan = rests (refused 3 d) refl refl
-  stay-busy Configuring = rests (refused 3 d) refl refl
+  stay-busy (OnAir t) = rests (refused PLACE d) refl refl
+  stay-busy Orphan = rests (refused PLACE d) refl refl
+  stay-busy Configuring = rests (refused PLACE d) refl refl
 
   stay-sent : (airtime : ℕ) (r : Radio) → Stay (onSent airtime r m d) m
-  stay-sent airtime Free = rests (refused 3 d) refl refl
-  stay-sent airtime (Listening t) = rests (refused 3 d) refl refl
+  stay-sent airtime Free = rests (refused PLACE d) refl refl
+  stay-sent airtime (Listening t) = rests (refused PLACE d) refl refl
   stay-sent airtime (OnAir t) = after
   stay-sent airtime Orphan = after
-  stay-sent airtime Configuring = rests (refused 3 d) refl refl
+  stay-sent airtime Configuring = rests (refused PLACE d) refl refl
 
   stay-in-force : (v : Bool) → Stay (inForce v m d) m
   stay-in-force true = rests (inForce true m d) refl refl
   stay-in-force false = rests (inForce false m d) refl refl
 
   stay-configured : (r : Radio) → Stay (onConfigured r m d) m
-  stay-configured Free = rests (refused 3 d) refl refl
-  stay-configured (Listening t) = rests (refused 3 d) refl refl
-  stay-configured (OnAir t) = rests (refused 3 d) refl refl
-  stay-configured Orphan = rests (refused 3 d) refl refl
+  stay-configured Free = rests (refused PLACE d) refl refl
+  stay-configured (Listening t) = rests (refused PLACE d) refl refl
+  stay-configured (OnAir t) = rests (refused PLACE d) refl refl
+  stay-configured Orphan = rests (refused PLACE d) refl refl
   stay-configured Configuring = stay-in-force (d .link .session)
 
   stay-fault : (r : Radio) → Stay (onFault r m d) m
@@ -163,7 +163,7 @@ module _ (m : List ℕ) (d : Device) where
 
   stay-packet : (v : Bool) (p : Packet) (ps : List ℕ) → Stay (onPacket v p ps d .done) m
   stay-packet true p ps = rests (onPacket true p ps d .done) refl refl
-  stay-packet false p ps = rests (refused 3 d) refl refl
+  stay-packet false p ps = rests (refused PLACE d) refl refl
 
   stay-request : (n : ℕ) (ps : List ℕ) → Stay (onRequest n ps d .done) m
   stay-request zero ps = rests (taken d [] Nothing) refl refl

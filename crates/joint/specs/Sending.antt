@@ -1,4 +1,5 @@
--- The packet of a TX that the radio holds: an order to transmit names it where it stands, and there it stays. This speaks of every state and all memories.
+-- 01 "What each event does", the order transmit: it names the packet of a TX where it stands, and there it stays, unchanged, while the radio holds the TX.
+-- This speaks of every state and all memories.
 -- proofs/ has it proved of the code, under the name that stands above it here.
 -- Assumes nothing.
 use Prim.Native.Nat.{ℕ, _+_, _*_, _%_}
