@@ -17,10 +17,6 @@ hex4 n = digit (n / 4096) ∷ digit (n / 256 % 16) ∷ digit (n / 16 % 16) ∷ d
 
 -- ---- the columns, of a run with what opening it answers
 
--- the names in rows of ten letters, as the code has them
-abbrev pub names : List ℕ
-names = text "PING      GET_INFO  SET_CONFIGTX        RX_START  RX_STOP   OK        ERR       RX        TX_DONE   ?         "
-
 -- the name of a type, `?` if it is none of the ten
 unfoldable pub name : ℕ → List ℕ
 name kind =

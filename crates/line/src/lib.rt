@@ -1,9 +1,9 @@
 // A line of a listing: 01 "Sheet of known values", its last part.
 ghost use mathlib.Core.Path.{_≡_};
 ghost use Prim.Native.Nat.{_+_, _≤_};
-ghost use lib.ListN.{length, take, drop};
+ghost use lib.ListN.{length, take};
 ghost use Rattle.buffer.specs.Lay.{lay};
-ghost use Rattle.line.specs.Lines.{hex4, names, name, lastColumn, line};
+ghost use Rattle.line.specs.Lines.{hex4, name, lastColumn, line};
 use frame::Opened;
 use kind::ERR;
 use kind::GET_INFO;
@@ -19,13 +19,12 @@ use kind::TX_DONE;
 // The longest line: 20 digits, a space, 10 letters, a space, 4 digits, a space, 20 digits and the
 // line end.
 pub const LINE_MAX: usize = 58;
-// The names of the types, in rows of ten letters, and `?` for any other.
-const NAMES: [u8; 110] =
-    *b"PING      GET_INFO  SET_CONFIGTX        RX_START  RX_STOP   OK        ERR       RX        TX_DONE   ?         ";
+// The longest name of a type.
+const NAME_MAX: usize = 10;
 
-// Where a name stands in NAMES.
-struct Part {
-    at: usize,
+// The name of a type: n letters, and blanks.
+struct Named {
+    letters: [u8; NAME_MAX],
     n: usize,
 }
 
@@ -39,23 +38,56 @@ fn hex4(n: u16, dst: &mut [u8], from: usize) -> usize
     text::hex(&bytes, dst, from)
 }
 
-// Where the name of a type stands in NAMES.
-fn part_of(kind: u8) -> Part
-    ensures { λ r. ⌜ r .at + r .n ≤ length names ⌝ }
-    ensures { λ r. ⌜ take (r .n) (drop (r .at) names) ≡ name kind ⌝ }
+// The letters of a type's name.
+fn letters_of(kind: u8) -> Named
+    ensures { λ r. ⌜ r .n ≤ length (r .letters) ⌝ }
+    ensures { λ r. ⌜ take (r .n) (r .letters) ≡ name kind ⌝ }
 {
     match kind {
-        PING => Part { at: 0, n: 4 },
-        GET_INFO => Part { at: 10, n: 8 },
-        SET_CONFIG => Part { at: 20, n: 10 },
-        TX => Part { at: 30, n: 2 },
-        RX_START => Part { at: 40, n: 8 },
-        RX_STOP => Part { at: 50, n: 7 },
-        OK => Part { at: 60, n: 2 },
-        ERR => Part { at: 70, n: 3 },
-        RX => Part { at: 80, n: 2 },
-        TX_DONE => Part { at: 90, n: 7 },
-        _ => Part { at: 100, n: 1 },
+        PING => Named {
+            letters: *b"PING      ",
+            n: 4,
+        },
+        GET_INFO => Named {
+            letters: *b"GET_INFO  ",
+            n: 8,
+        },
+        SET_CONFIG => Named {
+            letters: *b"SET_CONFIG",
+            n: 10,
+        },
+        TX => Named {
+            letters: *b"TX        ",
+            n: 2,
+        },
+        RX_START => Named {
+            letters: *b"RX_START  ",
+            n: 8,
+        },
+        RX_STOP => Named {
+            letters: *b"RX_STOP   ",
+            n: 7,
+        },
+        OK => Named {
+            letters: *b"OK        ",
+            n: 2,
+        },
+        ERR => Named {
+            letters: *b"ERR       ",
+            n: 3,
+        },
+        RX => Named {
+            letters: *b"RX        ",
+            n: 2,
+        },
+        TX_DONE => Named {
+            letters: *b"TX_DONE   ",
+            n: 7,
+        },
+        _ => Named {
+            letters: *b"?         ",
+            n: 1,
+        },
     }
 }
 
@@ -65,11 +97,10 @@ fn name(kind: u8, dst: &mut [u8], from: usize) -> usize
     ensures { λ r. ⌜ r ≡ from + length (name kind) ⌝ }
     ensures { λ r. ⌜ now (dst .exit) ≡ lay from (name kind) (now (dst .entry)) ⌝ }
 {
-    let part = part_of(kind);
-    let at = part.at;
-    let end = at + part.n;
-    let names = NAMES;
-    text::put(&names[at..end], dst, from)
+    let named = letters_of(kind);
+    let n = named.n;
+    let letters = named.letters;
+    text::put(&letters[..n], dst, from)
 }
 
 // Writes the last column, and ends the line.

@@ -1,54 +1,39 @@
--- The row's letters are put.
+-- The letters are put.
 -- Assumes nothing.
-use mathlib.Core.Path.{_≡_}
-use Prim.Native.Nat.{ℕ, _+_, _-_}
-use native.Mathlib.Omega.{arith}
-use lib.ListN.{take, drop}
-use Rattle.line.specs.Lines.{names, name}
+use mathlib.Core.Path.{sym}
+use lib.Seq.{length-take-le}
 use borrow.Author.Needs.{needs}
 use Rattle.line.proofs.name.Statement.{statement}
 use Rattle.line.proofs.name.Tie as tie
 
-in-row : (at n kind : ℕ) → take n (drop at names) ≡ name kind → take (at + n - at) (drop at names) ≡ name kind
-in-row at n kind e =
-    let m : at + n - at ≡ n = omega arith in
-    rw m e
+letters-of-requires : tie.Need-letters-of-requires
+letters-of-requires c κs = search needs
 
-part-of-requires : tie.Need-part-of-requires
-part-of-requires c κs = search needs
+array-share-prefix-letters : tie.Need-array-share-prefix-letters
+array-share-prefix-letters c = search needs
 
-add-end : tie.Need-add-end
-add-end c = search needs
-
-sub-put : tie.Need-sub-put
-sub-put c = search needs
-
-part-put-start : tie.Need-part-put-start
-part-put-start c = search needs
-
-part-put-end : tie.Need-part-put-end
-part-put-end c = search needs
+slice-aggregate-put : tie.Need-slice-aggregate-put
+slice-aggregate-put c =
+    sym (length-take-le _ (c .before .before .letters-of .result .letters) (c .before .before .letters-of .ensures .0))
 
 put-requires : tie.Need-put-requires
 put-requires c κs =
-    rw (in-row _ _ _ (c .before .before .before .before .part-of .ensures .1)) (c .before .before .before .before .before .before .pre)
+    rw (c .before .before .before .letters-of .ensures .1) (c .before .before .before .before .before .pre)
 
 same-length : tie.Need-same-length
 same-length c = search needs
 
 returns : tie.Need-returns
 returns c =
-    rw (in-row _ _ _ (c .before .before .before .before .before .before .before .part-of .ensures .1)) at (c .before .before .put .ensures)
+    rw (c .before .before .before .before .before .before .letters-of .ensures .1) at (c .before .before .put .ensures)
 
 pub name-spec : {M : Type 1} → statement M
 name-spec =
     tie.close
     (tie.spec
-    part-of-requires
-    add-end
-    sub-put
-    part-put-start
-    part-put-end
+    letters-of-requires
+    array-share-prefix-letters
+    slice-aggregate-put
     put-requires
     same-length
     returns)
