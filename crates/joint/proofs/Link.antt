@@ -21,7 +21,7 @@ use Rattle.control.specs.declared.Device.{Device}
 use Rattle.control.specs.declared.Order.the-variants.{Nothing, Standby}
 use Rattle.control.specs.Control.{link, withLink, free?, runs?, stalled, Done, taken}
 use Rattle.session.specs.Session.{ended, endSession, onTick, onDisconnect}
-use Rattle.link.specs.Link.{fed, joined, onJoin}
+use Rattle.link.specs.Link.{joined, onJoin}
 use Rattle.joint.specs.Seen.{orderIn}
 use Rattle.joint.proofs.Stands.{RunAs, as-run, as-long, RadioAs, as-free, as-listening, as-onAir, as-orphan, as-configuring, PendingAs, as-none, as-some, AirAs, Stands, Agrees, quietly, empty-link, empty-air, empty-inbox, with-link}
 
@@ -142,9 +142,7 @@ module _ {d : Device} {run m p : List ℕ} {s : State} (h : Stands d run m p s) 
   on-join b = go (ltb (d .link .run) 282) refl
     where
       go : (v : Bool) → ltb (d .link .run) 282 ≡ v
-          → Agrees (cond v (fed (joined d (d .link .run + 1)) (set run (d .link .run) b) m) (fed (joined d 283) run m) .done)
-          (cond v (fed (joined d (d .link .run + 1)) (set run (d .link .run) b) m) (fed (joined d 283) run m) .run)
-          (cond v (fed (joined d (d .link .run + 1)) (set run (d .link .run) b) m) (fed (joined d 283) run m) .commands) p
+          → Agrees (joined d (cond v (d .link .run + 1) 283)) (cond v (set run (d .link .run) b) run) m p
           (E.taken (S.withLink (S.link (s .link .session) (s .link .ticks) (s .link .run ++ (b ∷ []))) s) [] S.nothing)
       go true e = joins (grows b (d .link .run) (h .link .bytes) (ltb-true (d .link .run) 282 e)) (length-set run (d .link .run) b ∙ h .link .long)
       go false e = joins (too-long b (d .link .run) (h .link .bytes) (ltb-false (d .link .run) 282 e)) (h .link .long)

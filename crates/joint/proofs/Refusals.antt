@@ -8,7 +8,6 @@ use mathlib.Core.Bool.{Bool, true, false, cond, not, _&&_}
 use mathlib.Core.List.{List, [], _∷_, append-nil}
 use mathlib.Core.Option.{Option, none, some}
 use Prim.Native.Nat.{ℕ, zero, suc, _<_}
-use native.Mathlib.Omega.{arith}
 use native.Mathlib.Nat.{zero-add, not-suc-le-zero}
 use lib.Dec.{leb, ltb, eqb}
 use lib.ListN.{length, take}
@@ -144,13 +143,9 @@ takes-run (suc n) run m d =
     either-ruled (ltb encodedMax (suc n)) _ _ (takes-received damaged m (withLink d (link true 0 0)))
     (takes-received (received (take (suc n) run)) m (withLink d (link true 0 0)))
 
-either-fed : (v : Bool) (x z : Fed) → x .done .number ≡ TAKEN → z .done .number ≡ TAKEN → cond v x z .done .number ≡ TAKEN
-either-fed true x z e f = e
-either-fed false x z e f = f
-
 takes-join : (b : ℕ) (run m : List ℕ) (d : Device) → onJoin b run m d .done .number ≡ TAKEN
 unfolding onJoin
-takes-join b run m d = either-fed (ltb (d .link .run) encodedMax) _ _ refl refl
+takes-join b run m d = refl
 
 takes-byte : (b : ℕ) (run m : List ℕ) (d : Device) → onByte b run m d .done .number ≡ TAKEN
 unfolding onZero

@@ -2,7 +2,7 @@
 -- The idea: only a TX or a SET_CONFIG that is taken writes to the memory of commands, and to another slot, since fewer than sixteen are open; and only what
 -- starts a TX moves on in the ring.
 -- Assumes nothing.
-use mathlib.Core.Path.{_≡_, refl, sym, ap, subst}
+use mathlib.Core.Path.{_≡_, refl, sym, subst}
 use mathlib.Core.Bool.{Bool, true, false, cond, not, _&&_, true≢false}
 use mathlib.Core.List.{List, [], _∷_}
 use mathlib.Core.Option.{Option, none, some}
@@ -39,7 +39,7 @@ use Rattle.configured.specs.Configured.{inForce, onConfigured, configuredDone}
 use Rattle.inbox.specs.Packets.{onPacket, onRequest, packetDone, requestDone}
 use Rattle.intake.specs.Intake.{Ruled, ruled, open#, slotFor, waitsToo, onTx, sets, onSet}
 use Rattle.dispatch.specs.Commands.{turned, atOnce, onCommand, unless, judged, onReceived}
-use Rattle.link.specs.Link.{Fed, joined, onJoin, onRun, onZero, onByte, byteDone}
+use Rattle.link.specs.Link.{Fed, longer, joined, onJoin, onRun, onZero, onByte, byteDone}
 use Rattle.machine.specs.Machine.{Machine, Call, runsOn, runs}
 use Rattle.joint.specs.Sending.{holds, slotHeld, slotIn, starts, Names, Stays, PacketStays}
 use Rattle.joint.proofs.Slots.{Slot, wheel16, slot-kept}
@@ -270,7 +270,7 @@ module _ (run m : List ℕ) (d : Device) (long : length m ≡ 4403) where
 
   stay-join : (b : ℕ) → Feed (onJoin b run m d)
   unfolding onJoin
-  stay-join b = either-fed (ltb (d .link .run) encodedMax) _ _ (rests m d (joined d (d .link .run + 1)) refl refl) (rests m d (joined d 283) refl refl)
+  stay-join b = rests m d (joined d (longer (d .link .run))) refl refl
 
   -- the radio's side is the same where a session is opened
   woken : {m' : List ℕ} {e : Device} {o : Order} → Stays m (withLink d (link true 0 0)) m' e o → Stays m d m' e o

@@ -3,11 +3,11 @@
 use mathlib.Core.Path.{_≡_, refl}
 use mathlib.Core.Bool.{Bool, true, false, cond}
 use mathlib.Core.List.{List, []}
-use Prim.Native.Nat.{ℕ, zero, suc, _+_, _≤_, _<_}
+use Prim.Native.Nat.{ℕ, zero, suc, _≤_, _<_}
 use native.Mathlib.Omega.{arith}
 use borrow.Author.Tests.{lt-ltb, le-ltb}
 use lib.Dec.{ltb}
-use lib.ListN.{take, set}
+use lib.ListN.{take}
 use Rattle.numbers.specs.Numbers.{ROOM, STALL}
 use Rattle.cobs.specs.Decoding.{decoded}
 use Rattle.cobs.specs.Answers.{encodedMax}
@@ -21,9 +21,9 @@ use Rattle.device.specs.Events.{roomMin}
 use Rattle.control.specs.declared.Device.{Device}
 use Rattle.control.specs.declared.Order.the-variants.{Nothing}
 use Rattle.control.specs.Control.{link, withLink, stalled, Done, taken, refused}
-use Rattle.intake.specs.Intake.{ruled}
+use Rattle.intake.specs.Intake.{Ruled, ruled}
 use Rattle.dispatch.specs.Commands.{onReceived}
-use Rattle.link.specs.Link.{fed, joined, onJoin, onRun, onZero, byteDone}
+use Rattle.link.specs.Link.{fed, longer, stored, joined, onJoin, onRun, onZero, unlessRefused, zeroDone, joinDone, byteDone}
 
 -- ---- a run that was opened
 
@@ -69,52 +69,67 @@ module _ (run m : List ℕ) (d : Device) where
 
 -- ---- a byte
 
-module _ (room b : ℕ) (run m : List ℕ) (d : Device) where
-  pub no-room : room < roomMin → byteDone room b run m d ≡ fed (refused ROOM d) run m
-  unfolding byteDone
+-- the three ways out of the tests before it
+module _ {A : Type 0} (room : ℕ) (d : Device) (stop : Done → A) (x : A) where
+  pub no-room : room < roomMin → unlessRefused room d stop x ≡ stop (refused ROOM d)
   no-room h = simp (lt-ltb room roomMin h)
 
   module _ (enough : roomMin ≤ room) where
-    pub stalls : stalled (d .air) ≡ true → byteDone room b run m d ≡ fed (refused STALL d) run m
-    unfolding byteDone
+    pub stalls : stalled (d .air) ≡ true → unlessRefused room d stop x ≡ stop (refused STALL d)
     stalls s = simp (le-ltb room roomMin enough, s)
 
-    module _ (goes : stalled (d .air) ≡ false) where
-      pub ends-run : b ≡ 0 → byteDone room b run m d ≡ fed (onZero run m d .done) run (onZero run m d .commands)
-      unfolding byteDone
-      ends-run z = simp (le-ltb room roomMin enough, goes, z)
+    pub enters : stalled (d .air) ≡ false → unlessRefused room d stop x ≡ x
+    enters s = simp (le-ltb room roomMin enough, s)
 
-      on-join : (n : ℕ) → b ≡ n → (b ≡ 0 → ⊥) → byteDone room b run m d ≡ onJoin b run m d
-      unfolding byteDone
-      on-join zero e z = absurd (z e)
-      on-join (suc n) e z = simp (le-ltb room roomMin enough, goes, e)
-
-      pub joins : (b ≡ 0 → ⊥) → byteDone room b run m d ≡ onJoin b run m d
-      joins z = on-join b refl z
-
--- the memory of commands is not looked at, and nothing is said
-module _ (b : ℕ) (run : List ℕ) (d : Device) where
-  abbrev more : Done
-  more = joined d (d .link .run + 1)
-
-  abbrev past : Done
-  past = joined d 283
-
-  abbrev stored : List ℕ
-  stored = set run (d .link .run) b
-
-  pub join-any : (m : List ℕ) → onJoin b run m d ≡ fed (onJoin b run [] d .done) (onJoin b run [] d .run) m
-  unfolding onJoin
-  join-any m = go (ltb (d .link .run) encodedMax)
+-- a byte is a zero, or joins
+module _ (room : ℕ) (run m : List ℕ) (d : Device) where
+  pub zero-byte : byteDone room 0 run m d ≡ fed (zeroDone room run m d .done) run (zeroDone room run m d .commands)
+  unfolding byteDone zeroDone
+  zero-byte = go (ltb room roomMin) (stalled (d .air)) (onZero run m d)
     where
-      go : (t : Bool) → cond t (fed more stored m) (fed past run m) ≡ fed (cond t (fed more stored []) (fed past run []) .done) (cond t (fed more stored []) (fed past run []) .run) m
-      go true = refl
-      go false = refl
+      go : (v w : Bool) (x : Ruled)
+          → cond v (fed (refused ROOM d) run m) (cond w (fed (refused STALL d) run m) (fed (x .done) run (x .commands)))
+          ≡ fed (cond v (ruled (refused ROOM d) m) (cond w (ruled (refused STALL d) m) x) .done) run (cond v (ruled (refused ROOM d) m) (cond w (ruled (refused STALL d) m) x) .commands)
+      go true w x = refl
+      go false true x = refl
+      go false false x = refl
 
-  pub join-silent : onJoin b run [] d .done .said ≡ []
-  unfolding onJoin
-  join-silent = go (ltb (d .link .run) encodedMax)
+  joins : (b : ℕ) → byteDone room (suc b) run m d ≡ fed (joinDone room (suc b) run d .done) (joinDone room (suc b) run d .run) m
+  unfolding byteDone joinDone onJoin
+  joins b = go (ltb room roomMin) (stalled (d .air)) (joined d (longer (d .link .run))) (stored (d .link .run) (suc b) run)
     where
-      go : (t : Bool) → cond t (fed more stored []) (fed past run []) .done .said ≡ []
-      go true = refl
-      go false = refl
+      go : (v w : Bool) (x : Done) (run' : List ℕ)
+          → cond v (fed (refused ROOM d) run m) (cond w (fed (refused STALL d) run m) (fed x run' m))
+          ≡ fed (cond v (fed (refused ROOM d) run []) (cond w (fed (refused STALL d) run []) (fed x run' [])) .done) (cond v (fed (refused ROOM d) run []) (cond w (fed (refused STALL d) run []) (fed x run' [])) .run) m
+      go true w x run' = refl
+      go false true x run' = refl
+      go false false x run' = refl
+
+  pub join-byte : (b : ℕ) → (b ≡ 0 → ⊥) → byteDone room b run m d ≡ fed (joinDone room b run d .done) (joinDone room b run d .run) m
+  join-byte zero z = absurd (z refl)
+  join-byte (suc b) z = joins b
+
+-- one that joins, test by test
+module _ (room b : ℕ) (run : List ℕ) (d : Device) where
+  pub join-no-room : room < roomMin → joinDone room b run d ≡ fed (refused ROOM d) run []
+  unfolding joinDone
+  join-no-room h = no-room room d (λ x. fed x run []) (onJoin b run [] d) h
+
+  pub join-stalls : roomMin ≤ room → stalled (d .air) ≡ true → joinDone room b run d ≡ fed (refused STALL d) run []
+  unfolding joinDone
+  join-stalls h s = stalls room d (λ x. fed x run []) (onJoin b run [] d) h s
+
+  pub join-enters : roomMin ≤ room → stalled (d .air) ≡ false → joinDone room b run d ≡ onJoin b run [] d
+  unfolding joinDone
+  join-enters h s = enters room d (λ x. fed x run []) (onJoin b run [] d) h s
+
+-- it says nothing
+pub join-silent : (room b : ℕ) (run : List ℕ) (d : Device) → joinDone room b run d .done .said ≡ []
+unfolding joinDone onJoin
+join-silent room b run d = go (ltb room roomMin) (stalled (d .air)) (stored (d .link .run) b run)
+  where
+    go : (v w : Bool) (run' : List ℕ)
+        → cond v (fed (refused ROOM d) run []) (cond w (fed (refused STALL d) run []) (fed (joined d (longer (d .link .run))) run' [])) .done .said ≡ []
+    go true w run' = refl
+    go false true run' = refl
+    go false false run' = refl

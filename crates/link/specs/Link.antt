@@ -27,13 +27,17 @@ abbrev pub fed : Done → List ℕ → List ℕ → Fed
 fed x run m = record { done = x; run = run; commands = m }
 
 -- a byte that isn't zero joins the run; from 283 bytes on only that it is too long is kept
+abbrev pub longer : ℕ → ℕ
+longer n = cond (ltb n encodedMax) (n + 1) 283
+
+abbrev pub stored : ℕ → ℕ → List ℕ → List ℕ
+stored n b run = cond (ltb n encodedMax) (set run n b) run
+
 abbrev pub joined : Device → ℕ → Done
 joined d n = taken (withLink d (link (d .link .session) (d .link .ticks) n)) [] Nothing
 
 unfoldable pub onJoin : ℕ → List ℕ → List ℕ → Device → Fed
-onJoin b run m d =
-    cond (ltb (d .link .run) encodedMax) (fed (joined d (d .link .run + 1)) (set run (d .link .run) b) m)
-    (fed (joined d 283) run m)
+onJoin b run m d = fed (joined d (longer (d .link .run))) (stored (d .link .run) b run) m
 
 -- a zero ends the run: an empty one is nothing, and any other opens a session, sets the liveness count to 0, and is judged
 abbrev pub judges : ℕ → List ℕ → List ℕ → Device → Ruled
@@ -50,12 +54,22 @@ abbrev pub onByte : ℕ → List ℕ → List ℕ → Device → Fed
 onByte zero run m d = fed (onZero run m d .done) run (onZero run m d .commands)
 onByte (suc n) run m d = onJoin (suc n) run m d
 
--- ROOM, then STALL
+-- a byte that comes: ROOM, then STALL, and else x; `stop` is what a refusal is
+abbrev pub unlessRefused : {A : Type 0} → ℕ → Device → (Done → A) → A → A
+unlessRefused room d stop x =
+    cond (ltb room roomMin) (stop (refused ROOM d))
+    (cond (stalled (d .air)) (stop (refused STALL d))
+    x)
+
+-- a zero, a byte that isn't one, and any byte
+unfoldable pub zeroDone : ℕ → List ℕ → List ℕ → Device → Ruled
+zeroDone room run m d = unlessRefused room d (λ x. ruled x m) (onZero run m d)
+
+unfoldable pub joinDone : ℕ → ℕ → List ℕ → Device → Fed
+joinDone room b run d = unlessRefused room d (λ x. fed x run []) (onJoin b run [] d)
+
 unfoldable pub byteDone : ℕ → ℕ → List ℕ → List ℕ → Device → Fed
-byteDone room b run m d =
-    cond (ltb room roomMin) (fed (refused ROOM d) run m)
-    (cond (stalled (d .air)) (fed (refused STALL d) run m)
-    (onByte b run m d))
+byteDone room b run m d = unlessRefused room d (λ x. fed x run m) (onByte b run m d)
 
 -- the contract of a byte
 pub record Feeds (x : Fed) (o : List ℕ) (r : Answer) (o' run' m' : List ℕ) : Type 0 where

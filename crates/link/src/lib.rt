@@ -8,7 +8,7 @@ ghost use Rattle.device.specs.Frames as F;
 ghost use Rattle.control.specs.Control.{answerOf, Gives};
 ghost use Rattle.intake.specs.Intake.{Rules};
 ghost use Rattle.dispatch.specs.Commands.{onReceived};
-ghost use Rattle.link.specs.Link.{Feeds, byteDone, onJoin, onZero};
+ghost use Rattle.link.specs.Link.{Feeds, byteDone, zeroDone, joinDone, longer, stored, onZero};
 use cobs::ENCODED_MAX;
 use control::Answer;
 use control::Device;
@@ -45,6 +45,16 @@ pub fn byte(
 ) -> Answer
     ensures { λ r. ⌜ Feeds (byteDone (length (now (out .entry))) b (now (run .entry)) (now (commands .entry)) d) (now (out .entry)) r (now (out .exit)) (now (run .exit)) (now (commands .exit)) ⌝ }
 {
+    if b == 0 {
+        return zero(d, run, commands, out);
+    }
+    join(d, b, run, out.len())
+}
+
+// A byte that is zero: it ends the run.
+pub fn zero(d: Device, run: &[u8; RUN_MAX], commands: &mut [u8; COMMANDS], out: &mut [u8]) -> Answer
+    ensures { λ r. ⌜ Rules (zeroDone (length (now (out .entry))) (now (run .entry)) (now (commands .entry)) d) (now (out .entry)) r (now (out .exit)) (now (commands .exit)) ⌝ }
+{
     if out.len() < ROOM_MIN {
         return control::refuse(d, ROOM);
     }
@@ -52,36 +62,43 @@ pub fn byte(
     if control::is_stalled(air) {
         return control::refuse(d, STALL);
     }
-    if b == 0 {
-        return end_run(d, run, commands, out);
-    }
-    collect(d, b, run)
+    end_run(d, run, commands, out)
 }
 
-// A byte that is not zero joins the run.
-fn collect(d: Device, b: u8, run: &mut [u8; RUN_MAX]) -> Answer
-    ensures { λ r. ⌜ r ≡ answerOf 0 (onJoin b (now (run .entry)) [] d .done) ⌝ }
-    ensures { λ r. ⌜ now (run .exit) ≡ onJoin b (now (run .entry)) [] d .run ⌝ }
+// A byte that is not: it joins the run. It writes nothing, and asks only for the room that an event's
+// output must have.
+pub fn join(d: Device, b: u8, run: &mut [u8; RUN_MAX], room: usize) -> Answer
+    ensures { λ r. ⌜ r ≡ answerOf 0 (joinDone room b (now (run .entry)) d .done) ⌝ }
+    ensures { λ _. ⌜ now (run .exit) ≡ joinDone room b (now (run .entry)) d .run ⌝ }
 {
-    let link = d.link;
-    let at = link.run as usize;
-    if at < RUN_MAX {
-        run[at] = b;
-        let next = Link {
-            session: link.session,
-            ticks: link.ticks,
-            run: link.run + 1,
-        };
-        let e = control::with_link(d, next);
-        return control::accept(e, 0, Order::Nothing);
+    if room < ROOM_MIN {
+        return control::refuse(d, ROOM);
     }
+    let air = d.air;
+    if control::is_stalled(air) {
+        return control::refuse(d, STALL);
+    }
+    let link = d.link;
     let next = Link {
         session: link.session,
         ticks: link.ticks,
-        run: TOO_LONG,
+        run: keep(link.run, b, run),
     };
     let e = control::with_link(d, next);
     control::accept(e, 0, Order::Nothing)
+}
+
+// Puts a byte at index at of the run, and answers how long the run is then.
+fn keep(at: u16, b: u8, run: &mut [u8; RUN_MAX]) -> u16
+    ensures { λ r. ⌜ r ≡ longer at ⌝ }
+    ensures { λ _. ⌜ now (run .exit) ≡ stored at b (now (run .entry)) ⌝ }
+{
+    let k = at as usize;
+    if k < RUN_MAX {
+        run[k] = b;
+        return at + 1;
+    }
+    TOO_LONG
 }
 
 // A zero ends the run.
