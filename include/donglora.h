@@ -1,8 +1,12 @@
 /*
- * donglora.h: DongLoRa frames for C and C++.
+ * donglora.h: DongLoRa for C and C++: frames and messages for a host, and the whole dongle for
+ * firmware.
  *
  * Link with libdonglora.a. Every function behind this header is proved to do what is said here,
  * for every input: see README.md.
+ *
+ * The first part is for hosts, and for whatever works on captures. The second, "The dongle", is for
+ * a board's main loop.
  *
  * A frame on the wire is an encoded body and one zero byte; a body is a type, a tag, a payload and
  * a check value. To read what a dongle sends: cut it at its zeros and pass each run of bytes that
@@ -15,8 +19,9 @@
  *   - A destination must not overlap a source, nor `written` either of them.
  *   - A refusal writes nothing: every byte of the destination, and *written, stay as they were.
  *   - On success the bytes of the destination past the written ones stay as they were.
- *   - No function keeps a pointer, allocates memory or has state: all of them may be called from
- *     several threads and from interrupts.
+ *   - No function keeps a pointer, allocates memory or has state of its own: all of them may be
+ *     called from several threads and from interrupts, so long as no two calls at a time work on
+ *     the same memory.
  */
 #ifndef DONGLORA_H
 #define DONGLORA_H
@@ -30,6 +35,9 @@ extern "C" {
 
 /* The numbers that come back. */
 #define DONGLORA_TAKEN  0 /* done */
+#define DONGLORA_ROOM   1 /* an event of the dongle: the output is under DONGLORA_OUT bytes */
+#define DONGLORA_STALL  2 /* a byte came while a SET_CONFIG waits or runs */
+#define DONGLORA_PLACE  3 /* a radio outcome came that doesn't fit what the radio does */
 #define DONGLORA_SHORT  4 /* the destination is too small */
 #define DONGLORA_STUFF  5 /* the source is no COBS encoding */
 #define DONGLORA_LENGTH 6 /* the source is too long, or a body is outside 5 to 280 bytes */
@@ -45,6 +53,21 @@ extern "C" {
 #define DONGLORA_TX         0x04
 #define DONGLORA_RX_START   0x05
 #define DONGLORA_RX_STOP    0x06
+
+/* The message types that a dongle sends, and the codes of its ERR. */
+#define DONGLORA_OK      0x80
+#define DONGLORA_ERR     0x81
+#define DONGLORA_RX      0xC0
+#define DONGLORA_TX_DONE 0xC1
+
+#define DONGLORA_EPARAM         0x0001 /* a parameter is out of range */
+#define DONGLORA_ELENGTH        0x0002 /* a command has a payload of the wrong size */
+#define DONGLORA_ENOTCONFIGURED 0x0003 /* there was no SET_CONFIG, or its session has ended */
+#define DONGLORA_EMODULATION    0x0004 /* the modulation is neither LoRa nor FSK */
+#define DONGLORA_EUNKNOWN_CMD   0x0005 /* the message is no command */
+#define DONGLORA_EBUSY          0x0006 /* 16 TX are open */
+#define DONGLORA_ERADIO         0x0101 /* the radio has failed; tag 0 where that was no SET_CONFIG */
+#define DONGLORA_EFRAME         0x0102 /* a frame came damaged; tag 0 */
 
 /* The longest body, and the longest encoding of one (without the zero that ends a frame). */
 #define DONGLORA_BODY_MAX    280
@@ -120,6 +143,40 @@ uint8_t donglora_write_command(uint8_t type, uint16_t tag, const uint8_t *payloa
                                size_t dst_len, size_t *written);
 
 /*
+ * An answer, of whatever type. Where number is not DONGLORA_TAKEN the frame was refused, and all
+ * other fields are 0.
+ */
+struct donglora_message {
+    uint8_t number;
+    uint8_t type;       /* DONGLORA_OK, DONGLORA_ERR, DONGLORA_RX or DONGLORA_TX_DONE */
+    uint16_t tag;
+    size_t payload_len; /* the payload is body[DONGLORA_PAYLOAD] and on */
+};
+
+/*
+ * Reads run, the frame of an answer without its zero, and puts its body, from the type to the check
+ * value, at the start of body. command says how the payload of an OK is judged: with
+ * DONGLORA_GET_INFO and DONGLORA_SET_CONFIG as the layout of the OK to that command, and with any
+ * other number not at all. So a host may read with 0 first, look up the command by the tag, and read
+ * an OK again with that. An ERR has its code at body[DONGLORA_PAYLOAD], low byte first. The values of
+ * an RX and of a TX_DONE have readers of their own, below.
+ *
+ * number, the first that applies:
+ *   DONGLORA_LENGTH  run_len is over DONGLORA_ENCODED_MAX
+ *   DONGLORA_SHORT   body_len is under run_len, even where the body would have fitted
+ *   DONGLORA_STUFF   run is no COBS encoding
+ *   DONGLORA_LENGTH  the body is outside 5 to 280 bytes
+ *   DONGLORA_CHECK   the check value differs
+ *   DONGLORA_TAG     the tag is 0 in a command, an OK or a TX_DONE; it is not 0 in an RX
+ *   DONGLORA_TYPE    the frame is no answer
+ *   DONGLORA_FORM    an OK as above; an ERR under 2 bytes; an RX or a TX_DONE that its own reader
+ *                    refuses so
+ *   DONGLORA_TAKEN   done
+ */
+struct donglora_message donglora_read_answer(uint8_t command, const uint8_t *run, size_t run_len, uint8_t *body,
+                                             size_t body_len);
+
+/*
  * A received packet: what an RX says. Where number is not DONGLORA_TAKEN the frame was refused, and
  * all other fields are 0. Where origin is 1 the device sent the packet itself, and rssi, snr and
  * freq_err were not measured. Where crc_valid is 0 snr and freq_err may mean nothing.
@@ -140,19 +197,9 @@ struct donglora_rx {
 #define DONGLORA_RX_PACKET 23
 
 /*
- * Reads run, the frame of an RX without its zero, and puts its body, from the type to the check
- * value, at the start of body.
- *
- * number, the first that applies:
- *   DONGLORA_LENGTH  run_len is over DONGLORA_ENCODED_MAX
- *   DONGLORA_SHORT   body_len is under run_len, even where the body would have fitted
- *   DONGLORA_STUFF   run is no COBS encoding
- *   DONGLORA_LENGTH  the body is outside 5 to 280 bytes
- *   DONGLORA_CHECK   the check value differs
- *   DONGLORA_TAG     the tag is not 0 in an RX; it is 0 in a command, an OK or a TX_DONE
- *   DONGLORA_TYPE    the frame is of another type
- *   DONGLORA_FORM    the payload is under 20 bytes, or crc_valid or origin is over 1
- *   DONGLORA_TAKEN   done
+ * Reads run, the frame of an RX without its zero, and puts its body at the start of body. The
+ * numbers are those of donglora_read_answer; DONGLORA_TYPE is any message that is no RX, and
+ * DONGLORA_FORM a payload under 20 bytes, or a crc_valid or an origin over 1.
  */
 struct donglora_rx donglora_read_rx(const uint8_t *run, size_t run_len, uint8_t *body, size_t body_len);
 
@@ -169,10 +216,158 @@ struct donglora_tx_done {
 
 /*
  * Reads run, the frame of a TX_DONE without its zero, and puts its body at the start of body. The
- * numbers are those of donglora_read_rx; DONGLORA_FORM is a payload under 5 bytes or a result over
- * 2. Bytes after the known fields are ignored, and are in body too.
+ * numbers are those of donglora_read_answer; DONGLORA_TYPE is any message that is no TX_DONE, and
+ * DONGLORA_FORM a payload under 5 bytes or a result over 2. Bytes after the known fields are ignored,
+ * and are in body too.
  */
 struct donglora_tx_done donglora_read_tx_done(const uint8_t *run, size_t run_len, uint8_t *body, size_t body_len);
+
+/*
+ * ---- The dongle ----
+ *
+ * A dongle is a control array and three memories, which the firmware keeps between calls and does
+ * not change itself, and ten events, one function each. The firmware has the USB, the radio's chip
+ * and a clock; the library has the protocol: frames, sessions, the queue of TX, the ring of packets
+ * and every answer. How to call it:
+ *
+ *  1. Once, before all else: donglora_power_up.
+ *  2. Whenever something happens, call its function, one call at a time:
+ *        a byte has come from the host        donglora_byte
+ *        a millisecond has passed             donglora_tick
+ *        the host is gone (USB unplugged)     donglora_disconnect
+ *        the host can take a packet           donglora_request
+ *        the radio has done something         donglora_clear, _busy, _sent, _configured, _fault
+ *        the radio has received a packet      donglora_packet
+ *     Most are lent an output of at least DONGLORA_OUT bytes. Tick, disconnect, clear and packet
+ *     write nothing: pass the size of the output to them, too. Under DONGLORA_OUT bytes any event is
+ *     refused with DONGLORA_ROOM.
+ *  3. After each call, look at the answer:
+ *        number   DONGLORA_TAKEN; or the event was refused, and then the state, the memories and the
+ *                 output are as they were.
+ *        written  so many bytes at the start of the output are for the host: send them all, in
+ *                 order, before the output is lent again.
+ *        order    what the radio is to do now; see below.
+ *
+ * A host that is slow to read holds up only the events that write: the four that write nothing may be
+ * called meanwhile, and no millisecond needs to be lost.
+ *
+ * A byte that is refused with DONGLORA_STALL is not lost if the firmware keeps it: offer it again
+ * after the next call that told of the radio. When the host is gone throw it away, with all other
+ * bytes from that host that were not offered yet: they would spoil the next host's first frame.
+ * DONGLORA_PLACE tells that firmware and library differ about what the radio does, as when a "sent"
+ * comes twice, or a packet while the radio was not ordered to receive: such an event is best ignored.
+ * DONGLORA_ROOM is a mistake of the caller.
+ *
+ * Orders, and what the firmware does:
+ *   DONGLORA_NOTHING    go on.
+ *   DONGLORA_STANDBY    put the radio in standby.
+ *   DONGLORA_CONFIGURE  set the radio up. commands[at] and on, len bytes, are the modulation (1 LoRa,
+ *                       2 FSK) and its parameters as in SET_CONFIG; ldro is 1 where LoRa's low data
+ *                       rate optimisation is to be on. Then call donglora_configured, or
+ *                       donglora_fault if the radio refuses.
+ *   DONGLORA_TRANSMIT   send the packet, the len bytes from commands[at] on. Where listen is 1,
+ *                       listen for a clear channel first, and call donglora_clear and then send, or
+ *                       donglora_busy and don't. When it has been sent call donglora_sent, or
+ *                       donglora_fault if that fails. The packet stays where it is until then.
+ *   DONGLORA_RECEIVE    receive without end. For each packet call donglora_packet.
+ * An order replaces what the radio was doing, but for a packet on air: none comes before its end,
+ * which is told by donglora_sent or donglora_fault even where the session of its host has ended
+ * meanwhile. A radio that listened and is ordered elsewhere stops listening. donglora_fault may be
+ * called at any time, also with a radio that does nothing.
+ *
+ * The control array, the memories, the output, the packet's bytes and the answer must not overlap,
+ * and no pointer but that to a packet of 0 bytes may be NULL. Whatever the control array and the
+ * memories hold, each function reads and writes only the memory that it is lent, and does what its
+ * definition says; an array that no function of the library has written is put into the library's
+ * own form by the first call, even by a refused one. From donglora_power_up on, a dongle that is
+ * called in this way keeps the three demands that docs/ASSURANCE.md explains.
+ *
+ * examples/range/board.c is a board's firmware that does all this.
+ */
+
+/* The numbers of words of the control array, and of bytes of the memories and of the output. */
+#define DONGLORA_CONTROL  4
+#define DONGLORA_RUN      282
+#define DONGLORA_COMMANDS 4403
+#define DONGLORA_PACKETS  17664
+#define DONGLORA_OUT      283
+
+/* The orders. */
+#define DONGLORA_NOTHING   0
+#define DONGLORA_STANDBY   1
+#define DONGLORA_CONFIGURE 2
+#define DONGLORA_TRANSMIT  3
+#define DONGLORA_RECEIVE   4
+
+/*
+ * The answer to an event. It is written whole by each event, a refused one too: then written is 0
+ * and the order is DONGLORA_NOTHING.
+ */
+struct donglora_answer {
+    uint64_t number;  /* DONGLORA_TAKEN, _ROOM, _STALL or _PLACE */
+    uint64_t written; /* how many bytes of the output were written */
+    uint64_t order;   /* DONGLORA_NOTHING to DONGLORA_RECEIVE */
+    uint64_t at;      /* configure, transmit: where its bytes begin in commands, else 0 */
+    uint64_t len;     /* configure, transmit: how many they are, else 0 */
+    uint64_t ldro;    /* configure: 1 where LDRO is on, else 0 */
+    uint64_t listen;  /* transmit: 1 where the radio listens first, else 0 */
+};
+
+/* The first state, and memories filled with zero. */
+void donglora_power_up(uint64_t control[DONGLORA_CONTROL], uint8_t run[DONGLORA_RUN],
+                       uint8_t commands[DONGLORA_COMMANDS], uint8_t packets[DONGLORA_PACKETS]);
+
+/* A byte has come from the host. */
+void donglora_byte(uint64_t control[DONGLORA_CONTROL], uint8_t b, uint8_t run[DONGLORA_RUN],
+                   uint8_t commands[DONGLORA_COMMANDS], uint8_t *out, size_t out_len, struct donglora_answer *answer);
+
+/* A millisecond has passed. The thousandth without a frame from the host ends its session. */
+void donglora_tick(uint64_t control[DONGLORA_CONTROL], size_t out_len, struct donglora_answer *answer);
+
+/* The host is gone. */
+void donglora_disconnect(uint64_t control[DONGLORA_CONTROL], size_t out_len, struct donglora_answer *answer);
+
+/* The radio listened, and the channel is clear: the packet goes on air. */
+void donglora_clear(uint64_t control[DONGLORA_CONTROL], size_t out_len, struct donglora_answer *answer);
+
+/* The radio listened, and the channel is busy: the packet is not sent. */
+void donglora_busy(uint64_t control[DONGLORA_CONTROL], const uint8_t commands[DONGLORA_COMMANDS], uint8_t *out,
+                   size_t out_len, struct donglora_answer *answer);
+
+/* The packet has been sent, and took so many microseconds on air. */
+void donglora_sent(uint64_t control[DONGLORA_CONTROL], uint32_t airtime_us, const uint8_t commands[DONGLORA_COMMANDS],
+                   uint8_t *out, size_t out_len, struct donglora_answer *answer);
+
+/* The radio is set up as the last DONGLORA_CONFIGURE said. */
+void donglora_configured(uint64_t control[DONGLORA_CONTROL], const uint8_t commands[DONGLORA_COMMANDS], uint8_t *out,
+                         size_t out_len, struct donglora_answer *answer);
+
+/*
+ * The radio has failed, whatever it did. The host is told by an ERR with DONGLORA_ERADIO; a TX that
+ * was with the radio is reported as cancelled.
+ */
+void donglora_fault(uint64_t control[DONGLORA_CONTROL], const uint8_t commands[DONGLORA_COMMANDS], uint8_t *out,
+                    size_t out_len, struct donglora_answer *answer);
+
+/*
+ * What the radio has heard of a packet. A struct, since rssi and snr are numbers of one type that
+ * could change places in a list of arguments.
+ */
+struct donglora_heard {
+    int16_t rssi;          /* tenths of dBm */
+    int16_t snr;           /* tenths of dB */
+    int32_t freq_err;      /* Hz */
+    uint64_t timestamp_us; /* since the device's start */
+    uint8_t crc_valid;     /* 0 where the packet's CRC failed; else any other number, also without a CRC */
+};
+
+/* The radio has received a packet. One over 255 bytes is cut, and counts as one whose CRC failed. */
+void donglora_packet(uint64_t control[DONGLORA_CONTROL], struct donglora_heard heard, const uint8_t *bytes, size_t len,
+                     uint8_t packets[DONGLORA_PACKETS], size_t out_len, struct donglora_answer *answer);
+
+/* The host can take a packet: the oldest that is held is written, as an RX, or nothing. */
+void donglora_request(uint64_t control[DONGLORA_CONTROL], uint8_t packets[DONGLORA_PACKETS], uint8_t *out,
+                      size_t out_len, struct donglora_answer *answer);
 
 #ifdef __cplusplus
 }

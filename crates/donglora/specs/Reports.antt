@@ -1,7 +1,9 @@
--- What C gets of a message, by value: the fields of P 6.9 and 6.10 with 01's number before them. A refused read has zeros beside its number.
+-- What C gets of a message, by value: its fields with 01's number before them. A refused read has zeros beside its number.
 -- Assumes nothing.
 use Prim.Native.Nat.{ℕ, _-_}
+use mathlib.Core.Bool.{cond}
 use mathlib.Core.List.{List}
+use lib.Dec.{eqb}
 use lib.IntN.{pos}
 use lib.ListN.{length}
 use Rattle.numbers.specs.Numbers.{TAKEN}
@@ -12,8 +14,21 @@ use Rattle.frame.specs.declared.Opened.{Opened}
 use Rattle.frame.specs.declared.Opened.the-variants as O
 use Rattle.rx.specs.Rx.{rxSize, rxOf}
 use Rattle.answer.specs.Answers.{done-result, airtime-us}
+use Rattle.kind.specs.Kinds.{GET-INFO, SET-CONFIG}
+use Rattle.kind.specs.declared.Name.{Name}
+use Rattle.kind.specs.declared.Name.the-variants.{Ping, GetInfo, SetConfig}
+use Rattle.donglora.specs.declared.MessageReport.{MessageReport}
 use Rattle.donglora.specs.declared.RxReport.{RxReport}
 use Rattle.donglora.specs.declared.TxDoneReport.{TxDoneReport}
+
+-- the command that a number names, where an OK is read: two have an OK with a layout, and all others are as PING
+abbrev pub nameIn : ℕ → Name
+nameIn n = cond (eqb n GET-INFO) GetInfo (cond (eqb n SET-CONFIG) SetConfig Ping)
+
+-- reading the frame of any answer
+unfoldable pub messageReport : Opened → MessageReport
+messageReport (O.Body kind tag n) = record { number = TAKEN; kind = kind; tag = tag; «payload_len» = n }
+messageReport (O.Refused r) = record { number = refusalNumber r; kind = 0; tag = 0; «payload_len» = 0 }
 
 -- the payload p of an RX
 unfoldable pub rxSays : List ℕ → RxReport

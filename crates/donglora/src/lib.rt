@@ -11,12 +11,18 @@ ghost use Rattle.answer.specs.Answers.{txDoneSize};
 ghost use Rattle.reader.specs.Reading.{receiveAnswer, receiveLeft};
 ghost use Rattle.writer.specs.Writing.{writeAnswer, writeLeft};
 ghost use Rattle.donglora.specs.Written.{encodeWritten, decodeWritten, writeNumber, writeWritten};
-ghost use Rattle.donglora.specs.Reports.{rxSays, rxReport, txDoneSays, txDoneReport};
+ghost use Rattle.donglora.specs.Reports.{nameIn, messageReport, rxSays, rxReport, txDoneSays, txDoneReport};
+
+mod event;
+
 use cobs::Decoded;
 use cobs::Encoded;
 use frame::Opened;
 use frame::PAYLOAD;
 use frame::Written;
+use kind::GET_INFO;
+use kind::Name;
+use kind::SET_CONFIG;
 use numbers::LENGTH;
 use numbers::SHORT;
 use numbers::STUFF;
@@ -67,6 +73,15 @@ pub extern "C" fn donglora_cobs_decode(src: &[u8], dst: &mut [u8], written: &mut
     }
 }
 
+// What the frame of an answer says, for C: struct donglora_message.
+#[repr(C)]
+pub struct MessageReport {
+    pub number: u8,
+    pub kind: u8,
+    pub tag: u16,
+    pub payload_len: usize,
+}
+
 // What an RX says, for C: struct donglora_rx.
 #[repr(C)]
 pub struct RxReport {
@@ -110,6 +125,43 @@ pub extern "C" fn donglora_write_command(
             TAKEN
         }
         Written::Refused(r) => numbers::refusal_number(r),
+    }
+}
+
+// The command that a number names, where an OK is read.
+fn name_of(command: u8) -> Name
+    ensures { λ r. ⌜ r ≡ nameIn command ⌝ }
+{
+    if command == GET_INFO {
+        return Name::GetInfo;
+    }
+    if command == SET_CONFIG {
+        return Name::SetConfig;
+    }
+    Name::Ping
+}
+
+// Reads the frame of an answer, where an OK is that to a command, and puts its body at the start of
+// body.
+#[no_mangle]
+pub extern "C" fn donglora_read_answer(command: u8, run: &[u8], body: &mut [u8]) -> MessageReport
+    ensures { λ r. ⌜ r ≡ messageReport (receiveAnswer (Kinds.Answers (nameIn command)) (now (run .entry)) (length (now (body .entry)))) ⌝ }
+    ensures { λ r. ⌜ now (body .exit) ≡ receiveLeft (Kinds.Answers (nameIn command)) (now (run .entry)) (now (body .entry)) ⌝ }
+{
+    let name = name_of(command);
+    match reader::receive(Kinds::Answers(name), run, body) {
+        Opened::Body { kind, tag, len } => MessageReport {
+            number: TAKEN,
+            kind,
+            tag,
+            payload_len: len,
+        },
+        Opened::Refused(r) => MessageReport {
+            number: numbers::refusal_number(r),
+            kind: 0,
+            tag: 0,
+            payload_len: 0,
+        },
     }
 }
 

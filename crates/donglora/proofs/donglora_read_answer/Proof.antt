@@ -1,0 +1,52 @@
+-- What was received, field by field.
+-- Assumes nothing.
+use mathlib.Core.Path.{refl, sym, _∙_}
+use Rattle.donglora.specs.Reports.{messageReport}
+use borrow.Author.Needs.{needs}
+use Rattle.donglora.proofs.donglora_read_answer.Statement.{statement}
+use Rattle.donglora.proofs.donglora_read_answer.Tie as tie
+
+name-of-requires : tie.Need-name-of-requires
+name-of-requires c κs = search needs
+
+receive-requires : tie.Need-receive-requires
+receive-requires c κs = search needs
+
+enum-known-kind : tie.Need-enum-known-kind
+enum-known-kind c = search needs
+
+enum-known-r : tie.Need-enum-known-r
+enum-known-r c = search needs
+
+refusal-number-requires : tie.Need-refusal-number-requires
+refusal-number-requires c κs = search needs
+
+same-length : tie.Need-same-length
+same-length c = search needs
+
+returns : tie.Need-returns
+unfolding messageReport
+returns c =
+    let p = rw (c .before .before .before .before .before .before .before .name-of .ensures) at (c .before .before .before .before .before .receive .ensures) in let e = sym (p .0) ∙ c .before .kind .given .1 in (rw e refl, p .1)
+
+same-length-2 : tie.Need-same-length-2
+same-length-2 c = search needs
+
+returns-2 : tie.Need-returns-2
+unfolding messageReport
+returns-2 c =
+    let p = rw (c .before .before .before .before .before .before .before .before .name-of .ensures) at (c .before .before .before .before .before .before .receive .ensures) in let e = sym (p .0) ∙ c .before .before .r .given .1 in (rw (e, c .refusal-number .ensures) refl, p .1)
+
+pub donglora-read-answer-spec : {M : Type 1} → statement M
+donglora-read-answer-spec =
+    tie.close
+    (tie.spec
+    name-of-requires
+    receive-requires
+    enum-known-kind
+    enum-known-r
+    refusal-number-requires
+    same-length
+    returns
+    same-length-2
+    returns-2)

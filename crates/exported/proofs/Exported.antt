@@ -1,0 +1,173 @@
+-- The dongle that C calls goes in step with the device of the definition, from power-up on; so the demands hold of it.
+-- The idea: it is the device in code (crate joint) with its state in words, and a state that can be reached has numbers of its types, so that it comes back from
+-- its words unchanged.
+-- Assumes nothing.
+use mathlib.Core.Path.{_≡_, refl, sym, ap, ap₂, subst, _∙_}
+use mathlib.Core.List.{List, [], _∷_, _++_, map}
+use Prim.Native.Nat.{ℕ, suc, _<_}
+use native.Mathlib.Omega.{arith}
+use lib.ListN.{replicate, length-replicate, length-append}
+use Rattle.scalar.specs.Bytes.{Each}
+use Rattle.cobs.specs.Answers.{encodedMax}
+use Rattle.board.specs.Board.{sx1262}
+use Rattle.device.specs.State.{State}
+use Rattle.device.specs.State as S
+use Rattle.device.specs.Events.{step, Reply}
+use Rattle.device.specs.Demands.{defined, History, history, after, onward, begins, Demand2Wire, Demand3, InTime, DropCount}
+use Rattle.device.proofs.Back.{TagIn}
+use Rattle.device.proofs.Ranges.{sx1262-in}
+use Rattle.device.proofs.History as H
+use Rattle.device.proofs.Carrying.{InStep, given-in, demand2-wire-carried, demand3-carried, in-time-carried, drop-count-carried}
+use Rattle.control.specs.declared.Radio.{Radio}
+use Rattle.control.specs.declared.Device.{Device}
+use Rattle.slot.specs.Slots.{commandsSize}
+use Rattle.inbox.specs.Packets.{packetsSize}
+use Rattle.words.specs.Words.{radioTag, controlWords, answerWords}
+use Rattle.words.specs.Ranges.{DeviceIn}
+use Rattle.words.proofs.Laws.{round-trip, order-back}
+use Rattle.machine.specs.Machine.{Machine, machine, Call, Ran, runs}
+use Rattle.dongle.specs.Calls.{Lent, lent, first, machineIn, left, called}
+use Rattle.joint.specs.Seen.{replyOf}
+use Rattle.joint.specs.Joined.{Memories, started, inputOf, CallIn, replies}
+use Rattle.joint.proofs.Stands.{RunAs, as-run, as-long, RadioAs, as-free, as-listening, as-onAir, as-orphan, as-configuring}
+use Rattle.joint.proofs.Outcomes.{length-tags}
+use Rattle.joint.proofs.Joint.{Meets, same-reply, meets-next, meets-first}
+use Rattle.joint.proofs.Demands.{in-step}
+use Rattle.joint.proofs.Refusals as R
+use Rattle.exported.specs.Exported.{replyFrom, exported, answers, Joined, refusalWords, settled, Demand1, Unchanged}
+
+-- ---- a state that can be reached has numbers of its types
+
+run-small : {run rs : List ℕ} {n : ℕ} → RunAs run n rs → n < 0x10000
+run-small (as-run h e) = omega arith
+run-small (as-long e h) = omega arith
+
+tag-small : {m : List ℕ} {r : Radio} {q : S.Radio} → RadioAs m r q → (ts : List ℕ) → Each TagIn (S.held q ++ ts) → radioTag r < 0x10000
+tag-small as-free ts l = omega arith
+tag-small as-listening ts l = l .0 .1
+tag-small as-onAir ts l = l .0 .1
+tag-small as-orphan ts l = omega arith
+tag-small (as-configuring x) ts l = omega arith
+
+numbers-small : {y : Machine} {s : State} → Meets y s → DeviceIn (y .device)
+numbers-small {y} {s} h =
+    let l = h .stands .link in
+    let a = h .stands .air in
+    let i = h .stands .inbox in
+    record {
+      ticks = omega (arith, l .ticks, l .few);
+      run = run-small (l .bytes);
+      tag = tag-small (a .radio) (S.tagsOf (s .air .waiting)) (h .ranges .air .tags);
+      first = omega (arith, a .first);
+      waiting = omega (arith, a .count, h .ranges .air .few, length-append (S.held (s .air .radio)) (S.tagsOf (s .air .waiting)), length-tags (s .air .waiting));
+      ring = omega (arith, i .first);
+      held = omega (arith, i .count, i .few);
+      drops = omega (arith, i .drops, h .ranges .inbox .drops);
+    }
+
+-- ---- one call
+
+-- what joins a dongle of C to a state of the definition: the machine that it is stands for the state, and its words are the library's own
+record Joins (y : Lent) (s : State) : Type 0 where
+  meets : Meets (machineIn y) s
+  own : settled y ≡ y
+
+-- the answer's words tell what the code answers
+same-words : (y : Lent) (c : Call) → replyFrom (called y c) ≡ replyOf (runs (machineIn y) c)
+unfolding replyFrom called replyOf answerWords
+same-words y c = rw (order-back (runs (machineIn y) c .answer)) refl
+
+-- a machine whose state goes into words and comes back
+back : (x : Machine) → DeviceIn (x .device) → machineIn (lent (controlWords (x .device)) (x .run) (x .commands) (x .packets)) ≡ x
+back x h = ap (λ (d : Device). machine d (x .run) (x .commands) (x .packets)) (round-trip (x .device) h)
+
+own-words : (x : Machine) → DeviceIn (x .device)
+    → let y = lent (controlWords (x .device)) (x .run) (x .commands) (x .packets) in settled y ≡ y
+own-words x h = ap (λ (d : Device). lent (controlWords d) (x .run) (x .commands) (x .packets)) (round-trip (x .device) h)
+
+in-words : (x : Machine) (s : State) → Meets x s → Joins (lent (controlWords (x .device)) (x .run) (x .commands) (x .packets)) s
+in-words x s h =
+    let n = numbers-small h in
+    record { meets = subst (λ (z : Machine). Meets z s) (sym (back x n)) h; own = own-words x n }
+
+joins-next : (y : Lent) (s : State) → Joins y s → (c : Call) → CallIn c → Joins (called y c .next) (step sx1262 s (inputOf c) .next)
+unfolding called
+joins-next y s h c i = in-words (runs (machineIn y) c .next) (step sx1262 s (inputOf c) .next) (meets-next (h .meets) c i)
+
+-- ---- power-up
+
+abbrev memories : Memories
+memories =
+    record {
+      run = replicate encodedMax 0;
+      commands = replicate commandsSize 0;
+      packets = replicate packetsSize 0;
+      run-size = length-replicate {A = ℕ} _ 0;
+      commands-size = length-replicate {A = ℕ} _ 0;
+      packets-size = length-replicate {A = ℕ} _ 0;
+    }
+
+joins-first : Joins first S.powerUp
+joins-first = in-words (started memories) S.powerUp (meets-first memories)
+
+-- ---- every list of calls
+
+all-alike : (y : Lent) (s : State) → Joins y s → (cs : List Call) → Each CallIn cs → answers y cs ≡ replies s (map inputOf cs)
+unfolding answers replies
+all-alike y s h [] l = refl
+all-alike y s h (c ∷ cs) l =
+    ap₂ (λ (r : Reply) (rs : List Reply). r ∷ rs) (same-words y c ∙ same-reply (h .meets) c (l .0))
+    (all-alike (called y c .next) (step sx1262 s (inputOf c) .next) (joins-next y s h c (l .0)) cs (l .1))
+
+pub joined : (cs : List Call) → Joined cs
+joined cs l = all-alike first S.powerUp joins-first cs l
+
+abbrev step-by-step : InStep exported (defined sx1262) inputOf Joins
+step-by-step =
+    record {
+      event = λ c. refl;
+      givenIn = λ c i. i;
+      powerUp = joins-first;
+      answer = λ y s h c i. same-words y c ∙ same-reply (h .meets) c i;
+      next = λ y s h c i. joins-next y s h c i;
+      radio = λ y s h. in-step memories .radio (machineIn y) s (h .meets);
+      waiting = λ y s h. in-step memories .waiting (machineIn y) s (h .meets);
+    }
+
+module _ (cs : List Call) (l : Each CallIn cs) where
+  abbrev given : Each (defined sx1262 .GivenIn) (map inputOf cs)
+  given = given-in step-by-step cs l
+
+  pub demand2-wire : (c : Call) → CallIn c → Demand2Wire exported cs c (step sx1262 (history (defined sx1262) (map inputOf cs) .device) (inputOf c) .written)
+  demand2-wire c i = demand2-wire-carried step-by-step cs l c i (H.demand2-wire sx1262 sx1262-in (map inputOf cs) given (inputOf c) i)
+
+  pub demand3 : Demand3 exported cs
+  demand3 = demand3-carried step-by-step cs l (H.demand3 sx1262 sx1262-in (map inputOf cs) given)
+
+  pub in-time : InTime exported cs
+  in-time = in-time-carried step-by-step cs l (H.in-time sx1262 sx1262-in (map inputOf cs) given)
+
+  pub drop-count : DropCount exported cs
+  drop-count = drop-count-carried step-by-step cs l (H.drop-count sx1262 sx1262-in (map inputOf cs) given)
+
+-- ---- demand 1
+
+pub demand1 : (y : Lent) (c : Call) → Demand1 y c
+unfolding called answerWords
+demand1 y c =
+    let d = R.demand1 (machineIn y) c in
+    record {
+      tells = d .tells;
+      stays = λ k e. ap (λ (x : Ran). left (lent (controlWords (x .next .device)) (x .next .run) (x .next .commands) (x .next .packets)) (answerWords (x .answer)) (x .out)) (d .stays k e);
+    }
+
+own-after : (cs : List Call) → Each CallIn cs → (h : History exported) (s : State) → Joins (h .device) s → let y = after exported h cs .device in settled y ≡ y
+unfolding after onward
+own-after [] l h s j = j .own
+own-after (c ∷ cs) l h s j = own-after cs (l .1) (onward exported h c) (step sx1262 s (inputOf c) .next) (joins-next (h .device) s j c (l .0))
+
+pub unchanged : (cs : List Call) → Each CallIn cs → (c : Call) → Unchanged cs c
+unfolding history
+unchanged cs l c k e =
+    let y = history exported cs .device in
+    demand1 y c .stays k e ∙ ap (λ (z : Lent). left z (refusalWords (suc k)) (c .out)) (own-after cs l (begins exported) S.powerUp joins-first)

@@ -1,0 +1,73 @@
+-- The dongle as C calls it, as a device of which the demands speak: what is seen of it is the words of its answers, the bytes of its output, and the bytes in the
+-- memory of commands that an order names. proofs/ has the demands proved of it, under the names that they have in crate device.
+-- Assumes nothing.
+use Prim.Native.Nat.{ℕ, suc}
+use mathlib.Core.Path.{_≡_}
+use mathlib.Core.List.{List, [], _∷_, map}
+use lib.ListN.{take, getD}
+use Rattle.scalar.specs.Bytes.{Each}
+use Rattle.device.specs.State.{held}
+use Rattle.device.specs.State as S
+use Rattle.device.specs.Events.{Reply}
+use Rattle.device.specs.Demands.{Exact, System, history}
+use Rattle.control.specs.Control.{radioOf}
+use Rattle.queue.specs.Queue.{waitingTags}
+use Rattle.words.specs.Words.{controlWords, deviceIn, orderFrom}
+use Rattle.machine.specs.Machine.{Call}
+use Rattle.dongle.specs.Calls.{Lent, lent, first, machineIn, Left, left, called}
+use Rattle.joint.specs.Seen.{orderIn}
+use Rattle.joint.specs.Joined.{inputOf, CallIn, replies}
+use Rattle.joint.specs.Demands.{causeIn}
+
+-- the number, as many bytes of the output as were written, and the order
+unfoldable pub replyFrom : Left → Reply
+replyFrom x =
+    record {
+      number = getD (x .answer) 0 0;
+      bytes = take (getD (x .answer) 1 0) (x .out);
+      order = orderIn (x .next .commands) (orderFrom (x .answer));
+    }
+
+abbrev pub exported : System
+exported =
+    record {
+      State = Lent;
+      powerUp = first;
+      Given = Call;
+      event = λ c. c .event;
+      GivenIn = CallIn;
+      answer = λ y c. replyFrom (called y c);
+      next = λ y c. called y c .next;
+      radio = λ y. held (radioOf (deviceIn (y .control) .air .radio));
+      waiting = λ y. waitingTags (y .commands) (deviceIn (y .control) .air .first) (deviceIn (y .control) .air .waiting);
+    }
+
+-- what C is answered, call by call
+unfoldable pub answers : Lent → List Call → List Reply
+answers y [] = []
+answers y (c ∷ cs) = replyFrom (called y c) ∷ answers (called y c .next) cs
+
+-- joined: the number, the bytes written and the order are those of the definition at each call
+abbrev pub Joined : List Call → Type 0
+Joined cs = Each CallIn cs → answers first cs ≡ replies S.powerUp (map inputOf cs)
+
+-- ---- demand 1
+
+-- the answer's words of a refusal: its number, and nothing
+abbrev pub refusalWords : ℕ → List ℕ
+refusalWords n = n ∷ 0 ∷ 0 ∷ 0 ∷ 0 ∷ 0 ∷ 0 ∷ []
+
+-- a dongle whose control array says the same in the library's own words
+abbrev pub settled : Lent → Lent
+settled y = lent (controlWords (deviceIn (y .control))) (y .run) (y .commands) (y .packets)
+
+-- demand1, for every control array and all memories: the causes are 01's, and a refusal leaves the memories and the output, and the state that the words stand for
+abbrev pub Demand1 : Lent → Call → Type 0
+Demand1 y c =
+    Exact (λ (x : Left). getD (x .answer) 0 0) (λ k. left (settled y) (refusalWords k) (c .out)) (causeIn (machineIn y) c) (called y c)
+
+-- unchanged: after any list of calls from power-up a refusal changes nothing at all
+abbrev pub Unchanged : List Call → Call → Type 0
+Unchanged cs c =
+    let y = history exported cs .device in
+    (k : ℕ) → causeIn (machineIn y) c ≡ suc k → called y c ≡ left y (refusalWords (suc k)) (c .out)

@@ -1,0 +1,1 @@
+// The dongle that C calls is the device of the definition: theorems.

@@ -1,0 +1,29 @@
+-- The state is taken from its words, the event runs, and its answer is stored.
+-- Assumes nothing.
+use Rattle.machine.specs.Machine.{runs}
+use Rattle.dongle.specs.Calls.{called}
+use Rattle.dongle.proofs.Calls.{stored-out}
+use borrow.Author.Needs.{needs}
+use Rattle.radio.proofs.sent.Statement.{statement}
+use Rattle.radio.proofs.sent.Tie as tie
+
+device-of-requires : tie.Need-device-of-requires
+device-of-requires c κs = search needs
+
+sent-requires : tie.Need-sent-requires
+sent-requires c κs = search needs
+
+tell-requires : tie.Need-tell-requires
+tell-requires c κs = search needs
+
+same-length : tie.Need-same-length
+same-length c = search needs
+
+returns : tie.Need-returns
+unfolding called runs
+returns c =
+    let g = rw (c .before .before .before .before .before .before .before .device-of .ensures) at (c .before .before .before .before .before .sent .ensures) in λ run p. stored-out (record { answers = g .answers; control = c .tell .ensures .0; answer = c .tell .ensures .1 }) _ (g .writes) run _ p
+
+pub sent-spec : {M : Type 1} → statement M
+sent-spec =
+    tie.close (tie.spec device-of-requires sent-requires tell-requires same-length returns)
