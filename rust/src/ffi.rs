@@ -1,0 +1,335 @@
+//! The functions of libdonglora.a, each behind a safe one. This is the only module with `unsafe`
+//! code.
+//!
+//! What makes each call sound is the same: a slice's pointer and size name memory that is there, a
+//! destination is borrowed mutably and so overlaps nothing else, the arrays have the sizes that the
+//! header names, and no function keeps a pointer. The pointer of an empty slice is not NULL, and
+//! the library does not look at it.
+
+use crate::dongle::{COMMANDS, CONTROL, PACKETS, RUN};
+
+/// struct donglora_message
+#[repr(C)]
+pub(crate) struct Message {
+    pub(crate) number: u8,
+    pub(crate) kind: u8,
+    pub(crate) tag: u16,
+    pub(crate) payload_len: usize,
+}
+
+/// struct donglora_rx
+#[repr(C)]
+pub(crate) struct Rx {
+    pub(crate) number: u8,
+    pub(crate) rssi: i16,
+    pub(crate) snr: i16,
+    pub(crate) freq_err: i32,
+    pub(crate) timestamp_us: u64,
+    pub(crate) crc_valid: u8,
+    pub(crate) packets_dropped: u16,
+    pub(crate) origin: u8,
+    pub(crate) packet_len: usize,
+}
+
+/// struct donglora_tx_done
+#[repr(C)]
+pub(crate) struct TxDone {
+    pub(crate) number: u8,
+    pub(crate) tag: u16,
+    pub(crate) result: u8,
+    pub(crate) airtime_us: u32,
+}
+
+/// struct donglora_answer
+#[derive(Default)]
+#[repr(C)]
+pub(crate) struct Answer {
+    pub(crate) number: u64,
+    pub(crate) written: u64,
+    pub(crate) order: u64,
+    pub(crate) at: u64,
+    pub(crate) len: u64,
+    pub(crate) ldro: u64,
+    pub(crate) listen: u64,
+}
+
+/// struct donglora_heard
+#[repr(C)]
+pub(crate) struct Heard {
+    pub(crate) rssi: i16,
+    pub(crate) snr: i16,
+    pub(crate) freq_err: i32,
+    pub(crate) timestamp_us: u64,
+    pub(crate) crc_valid: u8,
+}
+
+extern "C" {
+    fn donglora_crc16(src: *const u8, src_len: usize) -> u16;
+    fn donglora_cobs_encode(
+        src: *const u8,
+        src_len: usize,
+        dst: *mut u8,
+        dst_len: usize,
+        written: *mut usize,
+    ) -> u8;
+    fn donglora_cobs_decode(
+        src: *const u8,
+        src_len: usize,
+        dst: *mut u8,
+        dst_len: usize,
+        written: *mut usize,
+    ) -> u8;
+    fn donglora_write_command(
+        kind: u8,
+        tag: u16,
+        payload: *const u8,
+        payload_len: usize,
+        dst: *mut u8,
+        dst_len: usize,
+        written: *mut usize,
+    ) -> u8;
+    fn donglora_read_answer(
+        command: u8,
+        run: *const u8,
+        run_len: usize,
+        body: *mut u8,
+        body_len: usize,
+    ) -> Message;
+    fn donglora_read_rx(run: *const u8, run_len: usize, body: *mut u8, body_len: usize) -> Rx;
+    fn donglora_read_tx_done(
+        run: *const u8,
+        run_len: usize,
+        body: *mut u8,
+        body_len: usize,
+    ) -> TxDone;
+    fn donglora_power_up(control: *mut u64, run: *mut u8, commands: *mut u8, packets: *mut u8);
+    fn donglora_byte(
+        control: *mut u64,
+        b: u8,
+        run: *mut u8,
+        commands: *mut u8,
+        out: *mut u8,
+        out_len: usize,
+        answer: *mut Answer,
+    );
+    fn donglora_tick(control: *mut u64, out_len: usize, answer: *mut Answer);
+    fn donglora_disconnect(control: *mut u64, out_len: usize, answer: *mut Answer);
+    fn donglora_clear(control: *mut u64, out_len: usize, answer: *mut Answer);
+    fn donglora_busy(
+        control: *mut u64,
+        commands: *const u8,
+        out: *mut u8,
+        out_len: usize,
+        answer: *mut Answer,
+    );
+    fn donglora_sent(
+        control: *mut u64,
+        airtime_us: u32,
+        commands: *const u8,
+        out: *mut u8,
+        out_len: usize,
+        answer: *mut Answer,
+    );
+    fn donglora_configured(
+        control: *mut u64,
+        commands: *const u8,
+        out: *mut u8,
+        out_len: usize,
+        answer: *mut Answer,
+    );
+    fn donglora_fault(
+        control: *mut u64,
+        commands: *const u8,
+        out: *mut u8,
+        out_len: usize,
+        answer: *mut Answer,
+    );
+    fn donglora_packet(
+        control: *mut u64,
+        heard: Heard,
+        bytes: *const u8,
+        len: usize,
+        packets: *mut u8,
+        out_len: usize,
+        answer: *mut Answer,
+    );
+    fn donglora_request(
+        control: *mut u64,
+        packets: *mut u8,
+        out: *mut u8,
+        out_len: usize,
+        answer: *mut Answer,
+    );
+}
+
+pub(crate) fn crc16(src: &[u8]) -> u16 {
+    // SAFETY: the source is a slice.
+    unsafe { donglora_crc16(src.as_ptr(), src.len()) }
+}
+
+/// The number, and how many bytes were written.
+pub(crate) fn cobs_encode(src: &[u8], dst: &mut [u8]) -> (u8, usize) {
+    let mut written = 0;
+    let (to, room) = (dst.as_mut_ptr(), dst.len());
+    // SAFETY: source and destination are slices, and a shared one and a mutable one do not overlap.
+    let number = unsafe { donglora_cobs_encode(src.as_ptr(), src.len(), to, room, &mut written) };
+    (number, written)
+}
+
+/// The number, and how many bytes were written.
+pub(crate) fn cobs_decode(src: &[u8], dst: &mut [u8]) -> (u8, usize) {
+    let mut written = 0;
+    let (to, room) = (dst.as_mut_ptr(), dst.len());
+    // SAFETY: source and destination are slices, and a shared one and a mutable one do not overlap.
+    let number = unsafe { donglora_cobs_decode(src.as_ptr(), src.len(), to, room, &mut written) };
+    (number, written)
+}
+
+/// The number, and how many bytes were written.
+pub(crate) fn write_command(kind: u8, tag: u16, payload: &[u8], dst: &mut [u8]) -> (u8, usize) {
+    let mut written = 0;
+    let (from, len) = (payload.as_ptr(), payload.len());
+    let (to, room) = (dst.as_mut_ptr(), dst.len());
+    // SAFETY: payload and destination are slices, and a shared one and a mutable one do not
+    // overlap.
+    let number = unsafe { donglora_write_command(kind, tag, from, len, to, room, &mut written) };
+    (number, written)
+}
+
+pub(crate) fn read_answer(command: u8, run: &[u8], body: &mut [u8]) -> Message {
+    let (to, room) = (body.as_mut_ptr(), body.len());
+    // SAFETY: run and body are slices, and a shared one and a mutable one do not overlap. The
+    // struct that comes back has numbers alone.
+    unsafe { donglora_read_answer(command, run.as_ptr(), run.len(), to, room) }
+}
+
+pub(crate) fn read_rx(run: &[u8], body: &mut [u8]) -> Rx {
+    // SAFETY: as in read_answer.
+    unsafe { donglora_read_rx(run.as_ptr(), run.len(), body.as_mut_ptr(), body.len()) }
+}
+
+pub(crate) fn read_tx_done(run: &[u8], body: &mut [u8]) -> TxDone {
+    // SAFETY: as in read_answer.
+    unsafe { donglora_read_tx_done(run.as_ptr(), run.len(), body.as_mut_ptr(), body.len()) }
+}
+
+/// The control array of a dongle, as the events have it.
+type Control = [u64; CONTROL];
+
+pub(crate) fn power_up(
+    control: &mut Control,
+    run: &mut [u8; RUN],
+    commands: &mut [u8; COMMANDS],
+    packets: &mut [u8; PACKETS],
+) {
+    let (run, commands) = (run.as_mut_ptr(), commands.as_mut_ptr());
+    // SAFETY: the four arrays have the header's sizes, and mutable ones do not overlap.
+    unsafe { donglora_power_up(control.as_mut_ptr(), run, commands, packets.as_mut_ptr()) }
+}
+
+pub(crate) fn byte(
+    control: &mut Control,
+    b: u8,
+    run: &mut [u8; RUN],
+    commands: &mut [u8; COMMANDS],
+    out: &mut [u8],
+) -> Answer {
+    let mut answer = Answer::default();
+    let (control, run) = (control.as_mut_ptr(), run.as_mut_ptr());
+    let (commands, to, room) = (commands.as_mut_ptr(), out.as_mut_ptr(), out.len());
+    // SAFETY: the arrays have the header's sizes, the output is a slice, and mutable ones do not
+    // overlap. The answer is on this stack, and has numbers alone.
+    unsafe { donglora_byte(control, b, run, commands, to, room, &mut answer) }
+    answer
+}
+
+pub(crate) fn tick(control: &mut Control, room: usize) -> Answer {
+    let mut answer = Answer::default();
+    // SAFETY: the array has the header's size, and the answer is on this stack. `room` is a number.
+    unsafe { donglora_tick(control.as_mut_ptr(), room, &mut answer) }
+    answer
+}
+
+pub(crate) fn disconnect(control: &mut Control, room: usize) -> Answer {
+    let mut answer = Answer::default();
+    // SAFETY: as in tick.
+    unsafe { donglora_disconnect(control.as_mut_ptr(), room, &mut answer) }
+    answer
+}
+
+pub(crate) fn clear(control: &mut Control, room: usize) -> Answer {
+    let mut answer = Answer::default();
+    // SAFETY: as in tick.
+    unsafe { donglora_clear(control.as_mut_ptr(), room, &mut answer) }
+    answer
+}
+
+pub(crate) fn busy(control: &mut Control, commands: &[u8; COMMANDS], out: &mut [u8]) -> Answer {
+    let mut answer = Answer::default();
+    let (control, commands) = (control.as_mut_ptr(), commands.as_ptr());
+    // SAFETY: as in byte; the commands are only read.
+    unsafe { donglora_busy(control, commands, out.as_mut_ptr(), out.len(), &mut answer) }
+    answer
+}
+
+pub(crate) fn sent(
+    control: &mut Control,
+    airtime_us: u32,
+    commands: &[u8; COMMANDS],
+    out: &mut [u8],
+) -> Answer {
+    let mut answer = Answer::default();
+    let (control, commands) = (control.as_mut_ptr(), commands.as_ptr());
+    let (to, room) = (out.as_mut_ptr(), out.len());
+    // SAFETY: as in busy.
+    unsafe { donglora_sent(control, airtime_us, commands, to, room, &mut answer) }
+    answer
+}
+
+pub(crate) fn configured(
+    control: &mut Control,
+    commands: &[u8; COMMANDS],
+    out: &mut [u8],
+) -> Answer {
+    let mut answer = Answer::default();
+    let (control, commands) = (control.as_mut_ptr(), commands.as_ptr());
+    // SAFETY: as in busy.
+    unsafe { donglora_configured(control, commands, out.as_mut_ptr(), out.len(), &mut answer) }
+    answer
+}
+
+pub(crate) fn fault(control: &mut Control, commands: &[u8; COMMANDS], out: &mut [u8]) -> Answer {
+    let mut answer = Answer::default();
+    let (control, commands) = (control.as_mut_ptr(), commands.as_ptr());
+    // SAFETY: as in busy.
+    unsafe { donglora_fault(control, commands, out.as_mut_ptr(), out.len(), &mut answer) }
+    answer
+}
+
+pub(crate) fn packet(
+    control: &mut Control,
+    heard: Heard,
+    bytes: &[u8],
+    packets: &mut [u8; PACKETS],
+    room: usize,
+) -> Answer {
+    let mut answer = Answer::default();
+    let (control, packets) = (control.as_mut_ptr(), packets.as_mut_ptr());
+    let (from, len) = (bytes.as_ptr(), bytes.len());
+    // SAFETY: the arrays have the header's sizes, the packet is a slice that is only read, and none
+    // overlaps a mutable one. The answer is on this stack.
+    unsafe { donglora_packet(control, heard, from, len, packets, room, &mut answer) }
+    answer
+}
+
+pub(crate) fn request(
+    control: &mut Control,
+    packets: &mut [u8; PACKETS],
+    out: &mut [u8],
+) -> Answer {
+    let mut answer = Answer::default();
+    let (control, packets) = (control.as_mut_ptr(), packets.as_mut_ptr());
+    // SAFETY: as in byte.
+    unsafe { donglora_request(control, packets, out.as_mut_ptr(), out.len(), &mut answer) }
+    answer
+}
