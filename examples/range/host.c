@@ -11,9 +11,6 @@
 #define KEEP_MS      500 /* a host that has nothing to say sends a PING (P 14.2) */
 #define FREQUENCY_HZ 868100000
 
-#define ENOTCONFIGURED 0x0003
-#define ERADIO         0x0101
-
 /* LoRa, 868.1 MHz, SF 10, 125 kHz, 4/5, preamble 8, sync word 0x1424, 14 dBm, CRC: P 10.1. */
 static const uint8_t configuration[] = {
     1, 0xA0, 0x27, 0xBE, 0x33, 10, 7, 0, 8, 0, 0x24, 0x14, POWER_DBM, 0, 1, 0,
@@ -160,9 +157,9 @@ static void read_err(struct host *h, struct cable *c, uint16_t tag, unsigned cod
 {
     struct line *line = oldest(c, 0);
 
-    if (tag == 0 && code == ERADIO) {
+    if (tag == 0 && code == DONGLORA_ERADIO) {
         c->fault = 1; /* the TX that was with the radio is reported next */
-    } else if (tag != 0 && code == ENOTCONFIGURED && line != NULL && line->tag == tag) {
+    } else if (tag != 0 && code == DONGLORA_ENOTCONFIGURED && line != NULL && line->tag == tag) {
         if (line->type == DONGLORA_TX)
             befall(h, &h->shots[line->shot], UNREPORTED);
         close_line(c, line);

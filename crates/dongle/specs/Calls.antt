@@ -11,7 +11,7 @@ use Rattle.control.specs.Control.{powerUp}
 use Rattle.slot.specs.Slots.{commandsSize}
 use Rattle.inbox.specs.Packets.{packetsSize}
 use Rattle.words.specs.Words.{controlWords, deviceIn, answerWords}
-use Rattle.machine.specs.Machine.{Machine, machine, Call, runs}
+use Rattle.machine.specs.Machine.{Machine, machine, Call, Ran, runs}
 
 -- the control array, and the memories of the run, of commands and of packets
 pub record Lent : Type 0 where
@@ -43,11 +43,13 @@ left y a o = record { next = y; answer = a; out = o }
 abbrev pub call : Event → List ℕ → Call
 call e o = record { event = e; out = o }
 
--- a call of any event: the words are taken for a state, the event runs, and the next state is put into words
+-- what an event leaves, in words
+abbrev pub inWords : Ran → Left
+inWords x = left (lent (controlWords (x .next .device)) (x .next .run) (x .next .commands) (x .next .packets)) (answerWords (x .answer)) (x .out)
+
+-- a call of any event: the words are taken for a state, the event runs, and what it leaves is put into words
 unfoldable pub called : Lent → Call → Left
-called y c =
-    let x = runs (machineIn y) c in
-    left (lent (controlWords (x .next .device)) (x .next .run) (x .next .commands) (x .next .packets)) (answerWords (x .answer)) (x .out)
+called y c = inWords (runs (machineIn y) c)
 
 -- ---- the contracts, by what an event is lent
 

@@ -26,7 +26,7 @@ use Rattle.words.specs.Words.{radioTag, controlWords, answerWords}
 use Rattle.words.specs.Ranges.{DeviceIn}
 use Rattle.words.proofs.Laws.{round-trip, order-back}
 use Rattle.machine.specs.Machine.{Machine, machine, Call, Ran, runs}
-use Rattle.dongle.specs.Calls.{Lent, lent, first, machineIn, left, called}
+use Rattle.dongle.specs.Calls.{Lent, lent, first, machineIn, left, inWords, called}
 use Rattle.joint.specs.Seen.{replyOf}
 use Rattle.joint.specs.Joined.{Memories, started, inputOf, CallIn, replies}
 use Rattle.joint.proofs.Stands.{RunAs, as-run, as-long, RadioAs, as-free, as-listening, as-onAir, as-orphan, as-configuring}
@@ -34,7 +34,7 @@ use Rattle.joint.proofs.Outcomes.{length-tags}
 use Rattle.joint.proofs.Joint.{Meets, same-reply, meets-next, meets-first}
 use Rattle.joint.proofs.Demands.{in-step}
 use Rattle.joint.proofs.Refusals as R
-use Rattle.exported.specs.Exported.{replyFrom, exported, answers, Joined, refusalWords, settled, Demand1, Unchanged}
+use Rattle.exported.specs.Exported.{replyFrom, exported, answers, Joined, refusalWords, settled, Demand1, Unchanged, Demand2}
 
 -- ---- a state that can be reached has numbers of its types
 
@@ -158,7 +158,7 @@ demand1 y c =
     let d = R.demand1 (machineIn y) c in
     record {
       tells = d .tells;
-      stays = λ k e. ap (λ (x : Ran). left (lent (controlWords (x .next .device)) (x .next .run) (x .next .commands) (x .next .packets)) (answerWords (x .answer)) (x .out)) (d .stays k e);
+      stays = λ k e. ap inWords (d .stays k e);
     }
 
 own-after : (cs : List Call) → Each CallIn cs → (h : History exported) (s : State) → Joins (h .device) s → let y = after exported h cs .device in settled y ≡ y
@@ -171,3 +171,9 @@ unfolding history
 unchanged cs l c k e =
     let y = history exported cs .device in
     demand1 y c .stays k e ∙ ap (λ (z : Lent). left z (refusalWords (suc k)) (c .out)) (own-after cs l (begins exported) S.powerUp joins-first)
+
+-- ---- demand 2, damaged frames
+
+pub demand2 : (y : Lent) (o : List ℕ) → Demand2 y o
+unfolding called
+demand2 y o room goes some bad = ap inWords (R.demand2 (machineIn y) o room goes some bad)

@@ -1,23 +1,26 @@
 -- The dongle as C calls it, as a device of which the demands speak: what is seen of it is the words of its answers, the bytes of its output, and the bytes in the
 -- memory of commands that an order names. proofs/ has the demands proved of it, under the names that they have in crate device.
 -- Assumes nothing.
-use Prim.Native.Nat.{ℕ, suc}
+use Prim.Native.Nat.{ℕ, suc, _<_}
 use mathlib.Core.Path.{_≡_}
+use mathlib.Core.Bool.{false}
 use mathlib.Core.List.{List, [], _∷_, map}
-use lib.ListN.{take, getD}
+use lib.Dec.{ltb}
+use lib.ListN.{length, take, getD}
 use Rattle.scalar.specs.Bytes.{Each}
-use Rattle.device.specs.State.{held}
+use Rattle.device.specs.State.{held, byte}
 use Rattle.device.specs.State as S
+use Rattle.device.specs.Frames.{damaged}
 use Rattle.device.specs.Events.{Reply}
 use Rattle.device.specs.Demands.{Exact, System, history}
-use Rattle.control.specs.Control.{radioOf}
+use Rattle.control.specs.Control.{radioOf, stalled}
 use Rattle.queue.specs.Queue.{waitingTags}
 use Rattle.words.specs.Words.{controlWords, deviceIn, orderFrom}
 use Rattle.machine.specs.Machine.{Call}
-use Rattle.dongle.specs.Calls.{Lent, lent, first, machineIn, Left, left, called}
+use Rattle.dongle.specs.Calls.{Lent, lent, first, machineIn, Left, left, call, inWords, called}
 use Rattle.joint.specs.Seen.{orderIn}
 use Rattle.joint.specs.Joined.{inputOf, CallIn, replies}
-use Rattle.joint.specs.Demands.{causeIn}
+use Rattle.joint.specs.Demands.{causeIn, brought, complaint}
 
 -- the number, as many bytes of the output as were written, and the order
 unfoldable pub replyFrom : Left → Reply
@@ -71,3 +74,12 @@ abbrev pub Unchanged : List Call → Call → Type 0
 Unchanged cs c =
     let y = history exported cs .device in
     (k : ℕ) → causeIn (machineIn y) c ≡ suc k → called y c ≡ left y (refusalWords (suc k)) (c .out)
+
+-- ---- demand 2, damaged frames
+
+-- demand2, for every control array and all memories: a run that fails step 1 is answered as the code answers it, in words
+abbrev pub Demand2 : Lent → List ℕ → Type 0
+Demand2 y o =
+    let x = machineIn y in
+    ltb (length o) 283 ≡ false → stalled (x .device .air) ≡ false → 0 < x .device .link .run → brought x ≡ damaged
+    → called y (call (byte 0) o) ≡ inWords (complaint x o)

@@ -117,13 +117,14 @@ fn radio_of(n: u64, tag: u16) -> Radio
     Radio::Configuring
 }
 
-// The host's side as a word, and back.
+// The host's side as a word.
 fn link_word(l: Link) -> u64
     ensures { λ r. ⌜ r ≡ linkWord l ⌝ }
 {
     flag(l.session) + l.ticks as u64 * 0x10000 + l.run as u64 * 0x100000000
 }
 
+// The host's side that a word stands for.
 fn link_of(w: u64) -> Link
     ensures { λ r. ⌜ r ≡ linkIn w ⌝ }
 {
@@ -134,7 +135,7 @@ fn link_of(w: u64) -> Link
     }
 }
 
-// The radio's side as a word, and back.
+// The radio's side as a word.
 fn air_word(a: Air) -> u64
     ensures { λ r. ⌜ r ≡ airWord a ⌝ }
 {
@@ -146,6 +147,7 @@ fn air_word(a: Air) -> u64
         + a.waiting as u64 * 0x1000000000000
 }
 
+// The radio's side that a word stands for.
 fn air_of(w: u64) -> Air
     ensures { λ r. ⌜ r ≡ airIn w ⌝ }
 {
@@ -158,7 +160,7 @@ fn air_of(w: u64) -> Air
     }
 }
 
-// Reception as a word, and back.
+// Reception as a word.
 fn inbox_word(i: Inbox) -> u64
     ensures { λ r. ⌜ r ≡ inboxWord i ⌝ }
 {
@@ -168,6 +170,7 @@ fn inbox_word(i: Inbox) -> u64
         + i.drops as u64 * 0x1000000000000
 }
 
+// The reception that a word stands for.
 fn inbox_of(w: u64) -> Inbox
     ensures { λ r. ⌜ r ≡ inboxIn w ⌝ }
 {
