@@ -10,7 +10,6 @@ use Rattle.text.specs.Text.{text, decimal, hex}
 use Rattle.control.specs.declared.Answer.{Answer}
 use Rattle.control.specs.declared.Order.{Order}
 use Rattle.control.specs.declared.Order.the-variants as O
-use Rattle.trace.specs.declared.Shown.{Shown}
 
 -- whether there is no order
 abbrev pub none : Order → Bool
@@ -35,14 +34,6 @@ orderText O.Standby m = text "standby"
 orderText (O.Configure at len ldro) m = text "configure/" ++ (flag ldro ++ hex (take len (drop at m)))
 orderText (O.Transmit at len listen) m = text "transmit/" ++ (flag listen ++ hex (take len (drop at m)))
 orderText O.Receive m = text "receive"
-
--- what orders start with, in rows of twelve letters, as the code has them
-abbrev pub orders : List ℕ
-orders = text "none        standby     receive     configure/0/configure/1/transmit/0/ transmit/1/ "
-
--- letters of a row and bytes of the memory of commands, whatever it has, are the order's text
-abbrev pub Shows : Shown → Order → Type 0
-Shows s o = (m : List ℕ) → take (s .n) (drop (s .row) orders) ++ hex (take (s .len) (drop (s .at) m)) ≡ orderText o m
 
 -- bytes, or a dash if there are none
 abbrev pub bytesText : List ℕ → List ℕ

@@ -1,20 +1,21 @@
 // A line of a trace. Each function writes from an index on, and answers where what it wrote ends.
 // Helpers of the crates above: they show that there is room.
 ghost use mathlib.Core.Path.{_≡_};
-ghost use Prim.Native.Nat.{_+_, _≤_};
-ghost use lib.ListN.{length};
+ghost use Prim.Native.Nat.{ℕ, _+_, _≤_};
+ghost use mathlib.Core.List.{List, _++_};
+ghost use lib.ListN.{length, take, drop};
 ghost use Rattle.buffer.specs.Lay.{lay};
-ghost use Rattle.trace.specs.Traces.{none, plain, orders, Shows, orderText, bytesText, lineEnd, traceLine, eventText, countLine, badLine, eventsLine};
+ghost use Rattle.text.specs.Text.{hex};
+ghost use Rattle.trace.specs.Traces.{none, plain, orderText, bytesText, lineEnd, traceLine, eventText, countLine, badLine, eventsLine};
 use control::Answer;
 use control::Order;
 
-// What orders start with, in rows of twelve letters; an order with bytes has its flag.
-const ORDERS: [u8; 84] =
-    *b"none        standby     receive     configure/0/configure/1/transmit/0/ transmit/1/ ";
+// The most letters that an order starts with: configure, its flag and two slashes.
+const START_MAX: usize = 12;
 
-// How an order is shown: n letters of a row, and len bytes of the memory of commands from index at on.
+// How an order is shown: n letters, and len bytes of the memory of commands from index at on.
 struct Shown {
-    row: usize,
+    letters: [u8; START_MAX],
     n: usize,
     at: usize,
     len: usize,
@@ -57,18 +58,18 @@ pub fn is_plain(a: Answer) -> bool
 
 // How an order is shown.
 fn shows(o: Order) -> Shown
-    ensures { λ r. ⌜ r .row + r .n ≤ length orders ⌝ }
-    ensures { λ r. ⌜ Shows r o ⌝ }
+    ensures { λ r. ⌜ r .n ≤ length (r .letters) ⌝ }
+    ensures { λ r. ⌜ ((m : List ℕ) → take (r .n) (r .letters) ++ hex (take (r .len) (drop (r .at) m)) ≡ orderText o m) ⌝ }
 {
     match o {
         Order::Nothing => Shown {
-            row: 0,
+            letters: *b"none        ",
             n: 4,
             at: 0,
             len: 0,
         },
         Order::Standby => Shown {
-            row: 12,
+            letters: *b"standby     ",
             n: 7,
             at: 0,
             len: 0,
@@ -76,14 +77,14 @@ fn shows(o: Order) -> Shown
         Order::Configure { at, len, ldro } => {
             if ldro {
                 return Shown {
-                    row: 48,
+                    letters: *b"configure/1/",
                     n: 12,
                     at,
                     len,
                 };
             }
             Shown {
-                row: 36,
+                letters: *b"configure/0/",
                 n: 12,
                 at,
                 len,
@@ -92,21 +93,21 @@ fn shows(o: Order) -> Shown
         Order::Transmit { at, len, listen } => {
             if listen {
                 return Shown {
-                    row: 72,
+                    letters: *b"transmit/1/ ",
                     n: 11,
                     at,
                     len,
                 };
             }
             Shown {
-                row: 60,
+                letters: *b"transmit/0/ ",
                 n: 11,
                 at,
                 len,
             }
         }
         Order::Receive => Shown {
-            row: 24,
+            letters: *b"receive     ",
             n: 7,
             at: 0,
             len: 0,
@@ -121,10 +122,9 @@ fn put_order(o: Order, commands: &[u8], dst: &mut [u8], from: usize) -> usize
     ensures { λ r. ⌜ now (dst .exit) ≡ lay from (orderText o (now (commands .entry))) (now (dst .entry)) ⌝ }
 {
     let s = shows(o);
-    let row = s.row;
-    let end = row + s.n;
-    let orders = ORDERS;
-    let named = text::put(&orders[row..end], dst, from);
+    let n = s.n;
+    let letters = s.letters;
+    let named = text::put(&letters[..n], dst, from);
     text::hex(buffer::part(commands, s.at, s.len), dst, named)
 }
 

@@ -1,4 +1,4 @@
--- In each arm the order and its flag are known, and the row has the definition's letters.
+-- In each arm the order and its flag are known, and the letters are the definition's.
 -- Assumes nothing.
 use mathlib.Core.Path.{refl}
 use lib.Dec.{lit≤}
@@ -19,7 +19,7 @@ enum-known-o c = search needs
 returns : tie.Need-returns
 unfolding hex
 returns c =
-    (lit≤ tt, λ m. rw (c .before .before .o .given .1, c .if1 .taken) refl)
+    (lit≤ tt, λ m. rw (c .before .before .before .before .o .given .1, c .before .before .if1 .taken) refl)
 
 enum-known-o-2 : tie.Need-enum-known-o-2
 enum-known-o-2 c = search needs
@@ -27,7 +27,7 @@ enum-known-o-2 c = search needs
 returns-2 : tie.Need-returns-2
 unfolding hex
 returns-2 c =
-    (lit≤ tt, λ m. rw (c .before .before .o2 .given .1, c .if2 .taken) refl)
+    (lit≤ tt, λ m. rw (c .before .before .before .before .o2 .given .1, c .before .before .if2 .taken) refl)
 
 enum-told-3 : tie.Need-enum-told-3
 enum-told-3 c = search needs
@@ -35,27 +35,27 @@ enum-told-3 c = search needs
 returns-3 : tie.Need-returns-3
 unfolding hex
 returns-3 c =
-    (lit≤ tt, λ m. rw (c .enum-told .given .1) refl)
+    (lit≤ tt, λ m. rw (c .before .before .enum-told .given .1) refl)
 
 returns-4 : tie.Need-returns-4
 unfolding hex
 returns-4 c =
-    (lit≤ tt, λ m. rw (c .enum-told2 .given .1) refl)
+    (lit≤ tt, λ m. rw (c .before .before .enum-told2 .given .1) refl)
 
 returns-5 : tie.Need-returns-5
 unfolding hex
 returns-5 c =
-    (lit≤ tt, λ m. rw (c .before .before .o .given .1, c .if1 .left) refl)
+    (lit≤ tt, λ m. rw (c .before .before .before .before .o .given .1, c .before .before .if1 .left) refl)
 
 returns-6 : tie.Need-returns-6
 unfolding hex
 returns-6 c =
-    (lit≤ tt, λ m. rw (c .before .before .o2 .given .1, c .if2 .left) refl)
+    (lit≤ tt, λ m. rw (c .before .before .before .before .o2 .given .1, c .before .before .if2 .left) refl)
 
 returns-7 : tie.Need-returns-7
 unfolding hex
 returns-7 c =
-    (lit≤ tt, λ m. rw (c .enum-told3 .given .1) refl)
+    (lit≤ tt, λ m. rw (c .before .before .enum-told3 .given .1) refl)
 
 pub shows-spec : {M : Type 1} → statement M
 shows-spec =
