@@ -237,7 +237,7 @@ fn order_number(o: Order) -> u64
 
 // An answer as words: its number, the count of bytes written, and the order with its values. The
 // state in it has words of its own.
-pub fn answer_words(a: Answer) -> [u64; ANSWER]
+fn answer_words(a: Answer) -> [u64; ANSWER]
     ensures { λ r. ⌜ r ≡ answerWords a ⌝ }
 {
     let number = a.number as u64;

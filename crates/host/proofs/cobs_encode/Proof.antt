@@ -1,11 +1,11 @@
 -- The number and the count of the case that the match found.
 -- Assumes nothing.
 use Rattle.cobs.specs.Answers.{encodeNumber}
-use Rattle.donglora.specs.Written.{encodeWritten}
-use Rattle.donglora.proofs.Told.{told}
+use Rattle.host.specs.Written.{encodeWritten}
+use Rattle.host.proofs.Told.{told}
 use borrow.Author.Needs.{needs}
-use Rattle.donglora.proofs.donglora_cobs_encode.Statement.{statement}
-use Rattle.donglora.proofs.donglora_cobs_encode.Tie as tie
+use Rattle.host.proofs.cobs_encode.Statement.{statement}
+use Rattle.host.proofs.cobs_encode.Tie as tie
 
 encode-requires : tie.Need-encode-requires
 encode-requires c κs = search needs
@@ -43,8 +43,8 @@ returns-3 c =
     let p = c .before .before .before .before .encode .ensures in
     told encodeNumber encodeWritten (c .enum-told2 .given .1) (p .0) (p .1) _
 
-pub donglora-cobs-encode-spec : {M : Type 1} → statement M
-donglora-cobs-encode-spec =
+pub cobs-encode-spec : {M : Type 1} → statement M
+cobs-encode-spec =
     tie.close
     (tie.spec
     encode-requires

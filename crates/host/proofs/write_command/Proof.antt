@@ -1,11 +1,11 @@
 -- The number and the count of the case that the match found.
 -- Assumes nothing.
 use mathlib.Core.Path.{_∙_}
-use Rattle.donglora.specs.Written.{writeNumber, writeWritten}
-use Rattle.donglora.proofs.Told.{told}
+use Rattle.host.specs.Written.{writeNumber, writeWritten}
+use Rattle.host.proofs.Told.{told}
 use borrow.Author.Needs.{needs}
-use Rattle.donglora.proofs.donglora_write_command.Statement.{statement}
-use Rattle.donglora.proofs.donglora_write_command.Tie as tie
+use Rattle.host.proofs.write_command.Statement.{statement}
+use Rattle.host.proofs.write_command.Tie as tie
 
 write-requires : tie.Need-write-requires
 write-requires c κs = search needs
@@ -36,8 +36,8 @@ returns-2 c =
     let q = told writeNumber writeWritten (c .before .before .r .given .1) (p .0) (p .1) _ in
     (c .refusal-number .ensures ∙ q .0, q .1)
 
-pub donglora-write-command-spec : {M : Type 1} → statement M
-donglora-write-command-spec =
+pub write-command-spec : {M : Type 1} → statement M
+write-command-spec =
     tie.close
     (tie.spec
     write-requires

@@ -17,9 +17,9 @@ use Rattle.answer.specs.Answers.{done-result, airtime-us}
 use Rattle.kind.specs.Kinds.{GET-INFO, SET-CONFIG}
 use Rattle.kind.specs.declared.Name.{Name}
 use Rattle.kind.specs.declared.Name.the-variants.{Ping, GetInfo, SetConfig}
-use Rattle.donglora.specs.declared.MessageReport.{MessageReport}
-use Rattle.donglora.specs.declared.RxReport.{RxReport}
-use Rattle.donglora.specs.declared.TxDoneReport.{TxDoneReport}
+use Rattle.host.specs.declared.MessageReport.{MessageReport}
+use Rattle.host.specs.declared.RxReport.{RxReport}
+use Rattle.host.specs.declared.TxDoneReport.{TxDoneReport}
 
 -- the command that a number names, where an OK is read: two have an OK with a layout, and all others are as PING
 abbrev pub nameIn : ℕ → Name

@@ -2,8 +2,8 @@
 -- Assumes nothing.
 use mathlib.Core.Path.{refl}
 use borrow.Author.Tests.{eq-eqb, ne-eqb}
-use Rattle.donglora.proofs.name_of.Statement.{statement}
-use Rattle.donglora.proofs.name_of.Tie as tie
+use Rattle.host.proofs.name_of.Statement.{statement}
+use Rattle.host.proofs.name_of.Tie as tie
 
 returns : tie.Need-returns
 returns c =

@@ -1,11 +1,11 @@
 -- The number and the count of the case that the match found.
 -- Assumes nothing.
 use Rattle.cobs.specs.Answers.{decodeNumber}
-use Rattle.donglora.specs.Written.{decodeWritten}
-use Rattle.donglora.proofs.Told.{told}
+use Rattle.host.specs.Written.{decodeWritten}
+use Rattle.host.proofs.Told.{told}
 use borrow.Author.Needs.{needs}
-use Rattle.donglora.proofs.donglora_cobs_decode.Statement.{statement}
-use Rattle.donglora.proofs.donglora_cobs_decode.Tie as tie
+use Rattle.host.proofs.cobs_decode.Statement.{statement}
+use Rattle.host.proofs.cobs_decode.Tie as tie
 
 decode-requires : tie.Need-decode-requires
 decode-requires c κs = search needs
@@ -54,8 +54,8 @@ returns-4 c =
     let p = c .before .before .before .before .decode .ensures in
     told decodeNumber decodeWritten (c .enum-told3 .given .1) (p .0) (p .1) _
 
-pub donglora-cobs-decode-spec : {M : Type 1} → statement M
-donglora-cobs-decode-spec =
+pub cobs-decode-spec : {M : Type 1} → statement M
+cobs-decode-spec =
     tie.close
     (tie.spec
     decode-requires

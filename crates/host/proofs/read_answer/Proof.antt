@@ -1,10 +1,10 @@
 -- What was received, field by field.
 -- Assumes nothing.
 use mathlib.Core.Path.{refl, sym, _∙_}
-use Rattle.donglora.specs.Reports.{messageReport}
+use Rattle.host.specs.Reports.{messageReport}
 use borrow.Author.Needs.{needs}
-use Rattle.donglora.proofs.donglora_read_answer.Statement.{statement}
-use Rattle.donglora.proofs.donglora_read_answer.Tie as tie
+use Rattle.host.proofs.read_answer.Statement.{statement}
+use Rattle.host.proofs.read_answer.Tie as tie
 
 name-of-requires : tie.Need-name-of-requires
 name-of-requires c κs = search needs
@@ -37,8 +37,8 @@ unfolding messageReport
 returns-2 c =
     let p = rw (c .before .before .before .before .before .before .before .before .name-of .ensures) at (c .before .before .before .before .before .before .receive .ensures) in let e = sym (p .0) ∙ c .before .before .r .given .1 in (rw (e, c .refusal-number .ensures) refl, p .1)
 
-pub donglora-read-answer-spec : {M : Type 1} → statement M
-donglora-read-answer-spec =
+pub read-answer-spec : {M : Type 1} → statement M
+read-answer-spec =
     tie.close
     (tie.spec
     name-of-requires

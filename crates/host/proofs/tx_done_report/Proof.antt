@@ -3,10 +3,10 @@
 use native.Mathlib.Omega.{arith}
 use Rattle.numbers.specs.Numbers.{TAKEN}
 use Rattle.scalar.proofs.Laws.{get-byte}
-use Rattle.donglora.specs.Reports.{txDoneSays}
+use Rattle.host.specs.Reports.{txDoneSays}
 use borrow.Author.Needs.{needs}
-use Rattle.donglora.proofs.tx_done_report.Statement.{statement}
-use Rattle.donglora.proofs.tx_done_report.Tie as tie
+use Rattle.host.proofs.tx_done_report.Statement.{statement}
+use Rattle.host.proofs.tx_done_report.Tie as tie
 
 u32-at-requires : tie.Need-u32-at-requires
 u32-at-requires c κs = search needs

@@ -11,10 +11,10 @@ use Rattle.numbers.specs.Numbers.{TAKEN}
 use Rattle.scalar.specs.Scalars.{i16, i32}
 use Rattle.rx.specs.Rx.{rxSize}
 use Rattle.rx.specs.declared.Rx.{Rx}
-use Rattle.donglora.specs.Reports.{rxSays}
+use Rattle.host.specs.Reports.{rxSays}
 use borrow.Author.Needs.{needs}
-use Rattle.donglora.proofs.rx_report.Statement.{statement}
-use Rattle.donglora.proofs.rx_report.Tie as tie
+use Rattle.host.proofs.rx_report.Statement.{statement}
+use Rattle.host.proofs.rx_report.Tie as tie
 
 rx-of-requires : tie.Need-rx-of-requires
 rx-of-requires c κs = search needs
