@@ -1,19 +1,23 @@
 -- What is demanded of a device after a list of events holds of every device that goes in step with it: proved of one, it is carried to the other.
--- The idea: the two answer alike, and the tally, the packets lost and the bytes are made of events and answers alone.
+-- The idea: the two answer alike, and the tally, what the observer knows and the bytes are made of events and answers alone.
 -- Assumes nothing.
 use mathlib.Core.Path.{_≡_, refl}
 use mathlib.Core.List.{List, [], _∷_, map}
+use Prim.Native.Nat.{ℕ, suc}
 use Rattle.scalar.specs.Bytes.{Each}
+use Rattle.board.specs.Board.{Board}
 use Rattle.device.specs.Messages.{Message}
-use Rattle.device.specs.Demands.{System, History, onward, after, history, Demand2Wire, Demand3, outcomes, InTime, DropCount}
+use Rattle.device.specs.Demands.{System, History, onward, after, history, Demand1Seen, Contents, Demand2Seen, Demand2Wire, Demand3, outcomes, InTime, DropCount}
 
 -- The device y goes in step with z: what y is given is given to z by g, and R joins their states. R may say more of the two states than is asked for here.
 pub record InStep (y z : System) (g : y .Given → z .Given) (R : y .State → z .State → Type 0) : Type 0 where
   pub event : (c : y .Given) → y .event c ≡ z .event (g c)
+  pub room : (c : y .Given) → y .room c ≡ z .room (g c)
   pub givenIn : (c : y .Given) → y .GivenIn c → z .GivenIn (g c)
   pub powerUp : R (y .powerUp) (z .powerUp)
   pub answer : (s : y .State) (t : z .State) → R s t → (c : y .Given) → y .GivenIn c → y .answer s c ≡ z .answer t (g c)
   pub next : (s : y .State) (t : z .State) → R s t → (c : y .Given) → y .GivenIn c → R (y .next s c) (z .next t (g c))
+  pub stays : (s : y .State) (t : z .State) → R s t → (c : y .Given) → y .GivenIn c → (n : ℕ) → y .answer s c .number ≡ suc n → y .next s c ≡ s
   pub radio : (s : y .State) (t : z .State) → R s t → y .radio s ≡ z .radio t
   pub waiting : (s : y .State) (t : z .State) → R s t → y .waiting s ≡ z .waiting t
 
@@ -21,7 +25,7 @@ pub record InStep (y z : System) (g : y .Given → z .Given) (R : y .State → z
 record Alike (y z : System) (R : y .State → z .State → Type 0) (h : History y) (k : History z) : Type 0 where
   device : R (h .device) (k .device)
   tally : h .tally ≡ k .tally
-  lost : h .lost ≡ k .lost
+  observer : h .observer ≡ k .observer
   bytes : h .bytes ≡ k .bytes
 
 module _ {y z : System} {g : y .Given → z .Given} {R : y .State → z .State → Type 0} (p : InStep y z g R) where
@@ -42,7 +46,7 @@ module _ {y z : System} {g : y .Given → z .Given} {R : y .State → z .State �
         record {
           device = p .next (h .device) (k .device) (a .device) c i;
           tally = rw (p .event c, answers, a .tally);
-          lost = rw (p .event c, answers, a .tally, a .lost);
+          observer = rw (p .event c, answers, a .tally, a .observer);
           bytes = rw (answers, a .bytes);
         }
 
@@ -53,7 +57,7 @@ module _ {y z : System} {g : y .Given → z .Given} {R : y .State → z .State �
 
   alike : (cs : List (y .Given)) → Each (y .GivenIn) cs → Alike y z R (history y cs) (history z (map g cs))
   unfolding history
-  alike cs l = alike-after cs l record { device = p .powerUp; tally = refl; lost = refl; bytes = refl }
+  alike cs l = alike-after cs l record { device = p .powerUp; tally = refl; observer = refl; bytes = refl }
 
   alike-outcomes : (cs : List (y .Given)) → Each (y .GivenIn) cs → {h : History y} {k : History z} → Alike y z R h k → outcomes y h cs ≡ outcomes z k (map g cs)
   unfolding outcomes
@@ -63,6 +67,36 @@ module _ {y z : System} {g : y .Given → z .Given} {R : y .State → z .State �
   -- ---- the demands
 
   module _ (cs : List (y .Given)) (l : Each (y .GivenIn) cs) where
+    pub demand1-seen-carried : (c : y .Given) → y .GivenIn c → Demand1Seen z (map g cs) (g c) → Demand1Seen y cs c
+    demand1-seen-carried c i d =
+        let a = alike cs l in
+        let e = answers a c i in
+        record {
+          tells = rw (e, p .room c, p .event c, a .observer) (d .tells);
+          stays = λ n k.
+              let s = d .stays n (rw e at k) in
+              (rw e (s .0), rw e (s .1), p .stays (history y cs .device) (history z (map g cs) .device) (a .device) c i n k);
+        }
+
+    pub contents-carried : {b : Board} (c : y .Given) → y .GivenIn c → Contents b z (map g cs) (g c) → Contents b y cs c
+    contents-carried c i d =
+        let a = alike cs l in
+        let e = answers a c i in
+        record {
+          count = rw e (d .count);
+          bytes = rw (e, p .event c, a .tally, a .observer) (d .bytes);
+          order = rw (e, p .event c, a .tally, a .observer) (d .order);
+        }
+
+    pub demand2-seen-carried : (c : y .Given) → y .GivenIn c → Demand2Seen z (map g cs) (g c) → Demand2Seen y cs c
+    demand2-seen-carried c i d =
+        let a = alike cs l in
+        let e = answers a c i in
+        record {
+          tells = rw (e, p .event c, a .tally) (d .tells);
+          alone = λ k q. let s = d .alone (rw e at k) (rw (p .event c, a .tally) at q) in (rw e (s .0), rw e (s .1));
+        }
+
     pub demand2-wire-carried : (c : y .Given) → y .GivenIn c → {ms : List Message} → Demand2Wire z (map g cs) (g c) ms → Demand2Wire y cs c ms
     demand2-wire-carried c i d =
         let e = answers (alike cs l) c i in
@@ -92,4 +126,4 @@ module _ {y z : System} {g : y .Given → z .Given} {R : y .State → z .State �
     pub drop-count-carried : DropCount z (map g cs) → DropCount y cs
     drop-count-carried d c i =
         let a = alike cs l in
-        rw (answers a c i, p .event c, a .lost) (d (g c) (p .givenIn c i))
+        rw (answers a c i, p .event c, a .observer) (d (g c) (p .givenIn c i))

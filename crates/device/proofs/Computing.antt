@@ -18,13 +18,15 @@ use Rattle.answer.specs.Answers.{configuredBytes, txDoneBytes, answerBytes}
 use Rattle.board.specs.Board.{among, bitmap, sx1262, infoOf}
 use Rattle.board.specs.Params.{loraGood, paramsGood}
 use Rattle.board.specs.Ldro.{slow, ldro}
-use Rattle.device.specs.Messages.{wire, wires, frameIn, framesIn, frames}
+use Rattle.device.specs.Messages.{wire, wires}
 use Rattle.device.specs.Frames.{received, objection}
+use Rattle.device.specs.Reading.{frameIn, framesIn, frames, brings}
 use Rattle.device.specs.Events.{listens, idle, step}
 use Rattle.device.specs.Tally.{tallied}
-use Rattle.device.specs.Lost.{losing}
-use Rattle.device.specs.Demands.{onward, after, history, dropCounts}
+use Rattle.device.specs.Observer.{observed}
+use Rattle.device.specs.Due.{messagesDue, orderDue}
+use Rattle.device.specs.Demands.{onward, after, history, eframes, dropCounts}
 
 unfoldable pub computes : Unit {0}
-unfolding lay bit bits byte crcFrom crcOf cut encoded E.wire hasZero whole broken parts groups joined decoded le number signed unsigned covered body frame openBody openAnswer runs isCommand loraOf loraBytes configOf configBytes syncWord infoHead infoBytes rxOf rxBytes configuredBytes txDoneBytes answerBytes among bitmap sx1262 infoOf loraGood paramsGood slow ldro wire wires frameIn framesIn frames received objection listens idle step tallied losing onward after history dropCounts
+unfolding lay bit bits byte crcFrom crcOf cut encoded E.wire hasZero whole broken parts groups joined decoded le number signed unsigned covered body frame openBody openAnswer runs isCommand loraOf loraBytes configOf configBytes syncWord infoHead infoBytes rxOf rxBytes configuredBytes txDoneBytes answerBytes among bitmap sx1262 infoOf loraGood paramsGood slow ldro wire wires received objection listens idle step frameIn framesIn frames brings tallied observed messagesDue orderDue onward after history eframes dropCounts
 computes = tt

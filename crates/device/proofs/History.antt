@@ -1,12 +1,12 @@
--- The demands on the defined device over every list of events from power-up: what is written is read back, demand 3, 01's last line on events, and the drop
--- count.
--- The idea: a history is good where its tally is that of its device (Keeping), each number is a value of its type (Ranges), and its bytes are the wires of messages
--- that are read back (Wires); one event more keeps that.
+-- The demands on the defined device over every list of events from power-up: demands 1 and 2 by what was seen, what is written and ordered, what is written is read
+-- back, demand 3, 01's last line on events, and the drop count.
+-- The idea: a history is good where its tally is that of its device (Keeping), and so is what the observer knows (Observing), each number is a value of its type
+-- (Ranges), and its bytes are the wires of messages that are read back (Wires); one event more keeps that.
 -- Assumes nothing.
 use mathlib.Core.Path.{_≡_, refl, sym, ap, ap₂, _∙_, subst}
 use mathlib.Core.Bool.{Bool, true, false}
 use mathlib.Core.List.{List, [], _∷_, _++_, map, append-nil}
-use Prim.Native.Nat.{ℕ, zero, suc, _+_, _≤_, _<_, zero-le}
+use Prim.Native.Nat.{ℕ, zero, suc, _+_, _≤_, _<_, zero-le, min}
 use native.Mathlib.Omega.{arith}
 use native.Mathlib.Nat.{le-refl, le-trans, le-of-suc-le-suc, not-suc-le-zero}
 use lib.ListN.{length, take, getD, length-append, length-map}
@@ -16,17 +16,21 @@ use Rattle.scalar.specs.Bytes.{Each}
 use Rattle.board.specs.Board.{Board}
 use Rattle.device.specs.State.{Radio, free, listening, onAir, orphan, configuring, Event, Input, held, tagsOf, open#}
 use Rattle.device.specs.Messages.{Message, wires, seen}
+use Rattle.device.specs.Reading.{frames}
 use Rattle.device.specs.Events.{Out, step, reply}
 use Rattle.device.specs.Tally.{Entry, entry, waits, open?, Tally, tallied, dones, reportedTags, newlyReported}
-use Rattle.device.specs.Lost.{losing}
+use Rattle.device.specs.Observer.{Observer, observed}
+use Rattle.device.specs.Due.{numberDue, messagesDue, orderDue}
 use Rattle.device.specs.Ranges.{InputIn, BoardIn}
-use Rattle.device.specs.Demands.{Demand2Wire, Demand3, InTime, DropCount, dropCounts, defined, History, onward, after, history, Closed, was-reported, was-dropped, closed, opens, outcomes, placeOf}
+use Rattle.device.specs.Demands.{Demand1Seen, Contents, Demand2Seen, eframes, Demand2Wire, Demand3, InTime, DropCount, dropCounts, defined, History, onward, after, history, Closed, was-reported, was-dropped, closed, opens, outcomes, placeOf}
 use Rattle.device.proofs.Laws.{atRadio, inQueue, reportedOf, dones-append}
 use Rattle.device.proofs.Wires.{AllSendable, sendable-append, wires-append, read-all}
 use Rattle.device.proofs.Back.{all-back}
 use Rattle.device.proofs.Ranges as R
-use Rattle.device.proofs.Losing.{Losing, losing-at-power-up, losingOut, losing-keeps, reports}
-use Rattle.device.proofs.Keeping.{length-open, tallyOf, tallyOut, Shaped, is-free, Keeps, keeps, passed}
+use Rattle.device.proofs.Refusals.{demand1}
+use Rattle.device.proofs.Keeping.{length-open, tallyOf, tallyOut, Shaped, is-free, none-waits, Keeps, keeps, passed}
+use Rattle.device.proofs.Observing.{knownOf, knownOut, Tells, tells}
+use Rattle.device.proofs.Due.{damage-due, eframes-due, drops-due}
 
 -- ---- good histories
 
@@ -39,7 +43,9 @@ record Good (b : Board) (h : History (defined b)) : Type 0 where
   sendable : AllSendable sent
   bytes : h .bytes ≡ wires sent
   wrote : dones (map seen sent) ≡ reportedOf before
-  losing : Losing (h .device) (h .lost)
+  lost : ℕ
+  knows : h .observer ≡ knownOf lost (h .device)
+  drops : h .device .inbox .drops ≡ min lost 65535
 
 reported-append : (xs ys : List Closed) → reportedOf (xs ++ ys) ≡ reportedOf xs ++ reportedOf ys
 reported-append [] ys = refl
@@ -50,6 +56,11 @@ reported-append (was-dropped t ∷ xs) ys = reported-append xs ys
 read-off : (e : Event) (o : Out) (t : Tally) → AllSendable (o .written) → tallied e (reply o) t ≡ tallyOut e o t
 unfolding tallied
 read-off e o t s = rw (read-all (o .written) s)
+
+-- and so does the observer
+seen-off : (e : Event) (o : Out) (t : Tally) (k : Observer) → AllSendable (o .written) → observed e (reply o) t k ≡ knownOut e o t k
+unfolding observed
+seen-off e o t k s = rw (read-all (o .written) s)
 
 module _ (b : Board) (board : BoardIn b) where
   -- what one event more does
@@ -67,9 +78,15 @@ module _ (b : Board) (board : BoardIn b) where
     reports-next : newlyReported (h .tally .txs) (onward (defined b) h i .tally .txs) ≡ reportedOf (kept .more)
     reports-next = ap₂ (λ (t u : Tally). newlyReported (t .txs) (u .txs)) (g .agrees) tally-next ∙ kept .reports
 
-    lost-next : onward (defined b) h i .lost ≡ losingOut (i .event) (step b (h .device) i) (tallyOf (g .before) (h .device)) (tallyOf (g .before ++ kept .more) (step b (h .device) i .next)) (h .lost)
-    unfolding onward losing
-    lost-next = rw (read-all (step b (h .device) i .written) (ranged .sendable)) (ap₂ (λ (t u : Tally). losingOut (i .event) (step b (h .device) i) t u (h .lost)) (g .agrees) tally-next)
+    told : Tells b (g .before) (g .lost) (h .device) (i .event) (step b (h .device) i)
+    told = tells b (g .before) (g .lost) (h .device) i (g .drops) (none-waits (g .shaped))
+
+    observer-next : onward (defined b) h i .observer ≡ knownOf (told .lost) (step b (h .device) i .next)
+    unfolding onward
+    observer-next =
+        seen-off (i .event) (step b (h .device) i) (h .tally) (h .observer) (ranged .sendable)
+        ∙ ap₂ (knownOut (i .event) (step b (h .device) i)) (g .agrees) (g .knows)
+        ∙ told .knows
 
     good-next : Good b (onward (defined b) h i)
     unfolding onward
@@ -83,7 +100,9 @@ module _ (b : Board) (board : BoardIn b) where
           sendable = sendable-append (g .sent) (step b (h .device) i .written) (g .sendable) (ranged .sendable);
           bytes = rw (wires-append, g .bytes);
           wrote = rw (dones-append, reported-append, g .wrote, kept .writes);
-          losing = subst (Losing (step b (h .device) i .next)) (sym lost-next) (losing-keeps b (g .before) (g .before ++ kept .more) (h .device) i (h .lost) (g .losing));
+          lost = told .lost;
+          knows = observer-next;
+          drops = told .drops;
         }
 
   good-after : (is : List Input) → Each InputIn is → {h : History (defined b)} → Good b h → Good b (after (defined b) h is)
@@ -103,7 +122,56 @@ module _ (b : Board) (board : BoardIn b) where
         sendable = tt;
         bytes = refl;
         wrote = refl;
-        losing = losing-at-power-up;
+        lost = 0;
+        knows = refl;
+        drops = refl;
+      }
+
+  -- ---- demand 1, by what was seen
+
+  pub demand1-seen : (is : List Input) → Each InputIn is → (i : Input) → InputIn i → Demand1Seen (defined b) is i
+  unfolding wires
+  demand1-seen is l i e =
+      let g = good is l in
+      let s = history (defined b) is .device in
+      let d = demand1 b s i in
+      record {
+        tells = d .tells ∙ ap (numberDue (i .room) (i .event)) (sym (g .knows));
+        stays = λ n k. let r = d .stays n (sym (d .tells) ∙ k) in (ap (λ o. wires (o .written)) r, ap (λ o. o .order) r, ap (λ o. o .next) r);
+      }
+
+  -- ---- what is written and ordered
+
+  -- the messages that are written are those that are due
+  says-due : (is : List Input) (l : Each InputIn is) (i : Input) (e : InputIn i)
+      → step b (history (defined b) is .device) i .written
+      ≡ messagesDue b (step b (history (defined b) is .device) i .number) (i .event) (history (defined b) is .tally) (history (defined b) is .observer)
+  says-due is l i e =
+      let g = good is l in
+      told g i e .written ∙ sym (ap₂ (messagesDue b (step b (history (defined b) is .device) i .number) (i .event)) (g .agrees) (g .knows))
+
+  pub contents : (is : List Input) → Each InputIn is → (i : Input) → InputIn i → Contents b (defined b) is i
+  contents is l i e =
+      let g = good is l in
+      record { count = refl; bytes = ap wires (says-due is l i e); order = told g i e .order ∙ sym (ap₂ (orderDue b (step b (history (defined b) is .device) i .number) (i .event)) (g .agrees) (g .knows)) }
+
+  -- the frames on the wire are those of the messages that are due
+  frames-due : (is : List Input) (l : Each InputIn is) (i : Input) (e : InputIn i)
+      → let s = history (defined b) is .device in
+      frames (wires (step b s i .written)) ≡ map seen (messagesDue b (step b s i .number) (i .event) (history (defined b) is .tally) (history (defined b) is .observer))
+  frames-due is l i e = read-all _ (ranged (good is l) i e .sendable) ∙ ap (map seen) (says-due is l i e)
+
+  -- ---- demand 2, damaged frames, by what was seen
+
+  pub demand2-seen : (is : List Input) → Each InputIn is → (i : Input) → InputIn i → Demand2Seen (defined b) is i
+  unfolding wires
+  demand2-seen is l i e =
+      let h = history (defined b) is in
+      let n = step b (h .device) i .number in
+      let c = contents is l i e in
+      record {
+        tells = ap eframes (frames-due is l i e) ∙ eframes-due b (h .tally) (h .observer) n (i .event);
+        alone = λ k d. let m = damage-due b (h .tally) (h .observer) (i .event) d in (c .bytes ∙ rw (k, m .0) (append-nil _), c .order ∙ rw k (m .1));
       }
 
   -- ---- demand 2, the bytes
@@ -228,5 +296,5 @@ module _ (b : Board) (board : BoardIn b) where
 
   pub drop-count : (is : List Input) → Each InputIn is → DropCount (defined b) is
   drop-count is l i e =
-      let g = good is l in
-      ap dropCounts (read-all (step b (history (defined b) is .device) i .written) (ranged g i e .sendable)) ∙ reports b (history (defined b) is .device) i (history (defined b) is .lost) (g .losing)
+      let h = history (defined b) is in
+      ap dropCounts (frames-due is l i e) ∙ drops-due b (h .tally) (h .observer) (step b (h .device) i .number) (i .event)

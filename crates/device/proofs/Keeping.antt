@@ -2,7 +2,7 @@
 -- The idea: the tally is a function of the state and of the closed TX, `tallyOf`; and a state that can be reached has one of six shapes.
 -- An event closes some TX (`more`), writes a TX_DONE for each of them that it reports, and leaves the rest as the device has them.
 -- Assumes nothing.
-use mathlib.Core.Path.{_≡_, refl, ap, _∙_}
+use mathlib.Core.Path.{_≡_, refl, sym, ap, _∙_}
 use mathlib.Core.Bool.{Bool, true, false, cond, _&&_, not, and-false, true≢false}
 use mathlib.Core.List.{List, [], _∷_, _++_, map, append-nil, append-assoc}
 use mathlib.Core.Option.{Option, none, some}
@@ -19,10 +19,11 @@ use Rattle.device.specs.State.{Config, Setting, Tx, Radio, free, listeni
 use Rattle.device.specs.State.{Event, byte, tick, clear, busy, sent, configured, fault, packet, request, disconnect, Input, Order, nothing, standby, configure, transmit, receive, free?}
 use Rattle.device.specs.Messages.{Frame, Message, ok, okInfo, err, txDone, ERADIO, EUNKNOWN-CMD, ENOTCONFIGURED, TRANSMITTED, CANCELLED, seen}
 use Rattle.device.specs.Frames.{Received, damaged, command, received, objection, settingOf, txOf}
+use Rattle.device.specs.Reading.{brings}
 use Rattle.device.specs.Events.{Out, changed, next, refused, begun, listens, idle, says, onTx, onSet, onCommand, turned, unless, onReceived, onByte, onPacket, onRequest, onEvent, endSession, unlessRoom, step, roomMin, ticksMax}
 use Rattle.device.specs.Tally.{sessionEnded, afterTime, withTxs, radioReported, Entry, Tally, tally, ifTaken, afterTaken, afterOrder, unlessConfigure, settled, noted, dones, newlyReported}
 use Rattle.device.specs.Demands.{Closed, was-reported, was-dropped, closed, outcome?}
-use Rattle.device.proofs.Laws.{atRadio, inQueue, past-radio, past-reported, past-dropped, past-started, past-newly, closed-append, queue-radio, queue-reported, queue-dropped, queue-more, length-queue, newly-more, newly-self, newly-reported, newly-dropped, reportedOf, all-reported, none-reported, dones-append, dones-cancelled, no-err}
+use Rattle.device.proofs.Laws.{run-brings, atRadio, inQueue, past-radio, past-reported, past-dropped, past-started, past-newly, closed-append, queue-radio, queue-reported, queue-dropped, queue-more, length-queue, newly-more, newly-self, newly-reported, newly-dropped, reportedOf, all-reported, none-reported, dones-append, dones-cancelled, no-err}
 
 -- ---- the tally of a state
 
@@ -52,6 +53,15 @@ pub data Shape : Radio → List Tx → Option Setting → Bool → Option Config
 
 abbrev pub Shaped : State → Type 0
 Shaped s = Shape (s .air .radio) (s .air .waiting) (s .air .pending) (s .link .session) (s .config)
+
+-- with a free radio none waits
+pub none-waits : {r : Radio} {ws : List Tx} {p : Option Setting} {v : Bool} {k : Option Config} → Shape r ws p v k → r ≡ free → ws ≡ []
+none-waits is-free e = refl
+none-waits is-listening e = cc
+none-waits is-onAir e = cc
+none-waits is-orphan e = refl
+none-waits is-alone e = refl
+none-waits is-configuring e = refl
 
 -- ---- what one event does
 
@@ -312,7 +322,7 @@ module _ (b : Board) (c : List Closed) where
     new x ws k j = state k (link true 0 []) (air x ws none) j
 
     abbrev Framed : Received → State → Out → Type 0
-    Framed f s o = received (r ∷ rs) ≡ f → Keeps c s (byte 0) o
+    Framed f s o = brings (r ∷ rs) ≡ f → Keeps c s (byte 0) o
 
     -- a session is opened
     awake : {x : Radio} {ws : List Tx} {v : Bool} {k : Option Config} → Shape x ws none v k → Shape x ws none true k
@@ -408,7 +418,7 @@ module _ (b : Board) (c : List Closed) where
   kept-taken : (m n : ℕ) (rs : List ℕ) (i : Inbox) {x : Radio} {ws : List Tx} {v : Bool} {k : Option Config} → Shape x ws none v k → runs? x ≡ false
       → Keeps c (state k (link v n rs) (air x ws none) i) (byte m) (onByte b m (state k (link v n rs) (air x ws none) i))
   kept-taken zero n [] i q h = same c _ (byte 0) _ refl refl q refl (λ z. refl)
-  kept-taken zero n (r ∷ rs) i q h = kept-received n r rs i _ q h refl
+  kept-taken zero n (r ∷ rs) i q h = kept-received n r rs i _ q h (sym (run-brings (r ∷ rs)))
   kept-taken (suc m) n rs i q h = same c _ (byte (suc m)) _ refl refl q refl (λ z. refl)
 
   kept-byte : (m n : ℕ) (rs : List ℕ) (i : Inbox) {x : Radio} {ws : List Tx} {p : Option Setting} {v : Bool} {k : Option Config} → Shape x ws p v k

@@ -1,13 +1,21 @@
--- Laws of the tally's lists: the closed TX stand first, and what befalls the open ones goes past them.
+-- Laws of what a run brings, and of the tally's lists: the closed TX stand first, and what befalls the open ones goes past them.
 -- Assumes nothing.
 use mathlib.Core.Path.{_≡_, refl, ap, ap₂}
 use mathlib.Core.Bool.{false}
 use mathlib.Core.List.{List, [], _∷_, _++_, map, map-append, append-assoc}
-use Prim.Native.Nat.{ℕ, _+_}
+use Prim.Native.Nat.{ℕ, zero, suc, _+_}
 use lib.ListN.{length, length-append}
+use Rattle.cobs.specs.Decoding.{decoded}
+use Rattle.cobs.specs.Answers.{encodedMax}
+use Rattle.frame.specs.Body.{payloadOf}
+use Rattle.frame.specs.Reading.{openAnswer}
+use Rattle.frame.specs.declared.Opened.{Opened}
+use Rattle.frame.specs.declared.Opened.the-variants as O
 use Rattle.kind.specs.Kinds.{ERR}
 use Rattle.device.specs.State.{Tx, tagsOf}
 use Rattle.device.specs.Messages.{Message, cancelled, seen}
+use Rattle.device.specs.Frames.{received, untagged}
+use Rattle.device.specs.Reading.{found, frameIn, tagged, brings}
 use Rattle.device.specs.Tally.{Entry, entry, reported, dropped, withRadio, waits, openTo, radioReported, started, wrote, dones, newlyReported}
 use Rattle.device.specs.Demands.{Closed, was-reported, was-dropped, closed}
 
@@ -17,6 +25,18 @@ atRadio ts = map (λ t. entry t withRadio) ts
 
 abbrev pub inQueue : List ℕ → List Entry
 inQueue ts = map (λ t. entry t waits) ts
+
+-- ---- a run
+
+-- what a run brings, to the device and to an observer
+pub run-brings : (run : List ℕ) → received run ≡ brings run
+unfolding received brings frameIn
+run-brings run = go (openAnswer run encodedMax)
+  where
+    go : (o : Opened) → untagged o (payloadOf (decoded run)) ≡ tagged (found o (payloadOf (decoded run)))
+    go (O.Body k zero n) = refl
+    go (O.Body k (suc t) n) = refl
+    go (O.Refused r) = refl
 
 -- ---- past the closed ones
 

@@ -2,7 +2,8 @@ pub mod Laws
 pub mod Computing
 pub mod Witnesses
 pub mod Keeping
-pub mod Losing
+pub mod Observing
+pub mod Due
 pub mod Refusals
 pub mod Wires
 pub mod Back

@@ -38,7 +38,7 @@ use Rattle.board.specs.Board.{Board, ringMax, txMax, infoOf, uidsOf, bitmap, sx
 use Rattle.board.specs.Params.{paramsGood, fskGood, freqGood}
 use Rattle.device.specs.State.{Config, Setting, Tx, Radio, free, listening, onAir, orphan, configuring, Packet, Inbox, Air, State, link, air, inbox, state, withLink, withInbox, deaf, powerUp, held, tagsOf, open#, free?, stalled}
 use Rattle.device.specs.State.{Event, byte, tick, clear, busy, sent, configured, fault, packet, request, disconnect, Input, Order, nothing}
-use Rattle.device.specs.Messages.{Message, wires, ok, okInfo, okConfigured, err, txDone, rx, cancelled, frameIn, found, TRANSMITTED, CHANNEL-BUSY, CANCELLED, EPARAM, ELENGTH, ENOTCONFIGURED, EMODULATION, EUNKNOWN-CMD, EBUSY, EFRAME, ERADIO, seen}
+use Rattle.device.specs.Messages.{Message, wires, ok, okInfo, okConfigured, err, txDone, rx, cancelled, TRANSMITTED, CHANNEL-BUSY, CANCELLED, EPARAM, ELENGTH, ENOTCONFIGURED, EMODULATION, EUNKNOWN-CMD, EBUSY, EFRAME, ERADIO, seen}
 use Rattle.device.specs.Frames.{Received, damaged, command, received, untagged, unconfigured, needsConfig, strange, configSized, sized, objection, good, settingOf, txOf}
 use Rattle.device.specs.Events.{Out, taken, begun, start, begin, next, afterTx, says, waitsFor, onTx, onSet, turned, onCommand, unless, onReceived, onRun, onByte, unlessStalled, onClear, onBusy, onSent, onConfigured, inForce, heard, onFault, cut, kept, dropsMax, listens, onPacket, onRequest, ended, endSession, ticksMax, onTick, onDisconnect, onEvent, roomMin, unlessRoom, step}
 use Rattle.device.specs.Tally.{wrote}
@@ -438,10 +438,10 @@ ReceivedIn damaged = Unit {0}
 ReceivedIn (command kind t p) = TagIn t × Bytes p
 
 pub received-in : (run : List ℕ) → Bytes run → ReceivedIn (received run)
-unfolding received frameIn
+unfolding received
 received-in run h = go (openAnswer run encodedMax) refl
   where
-    go : (o : Opened) → openAnswer run encodedMax ≡ o → ReceivedIn (untagged (found o (payloadOf (decoded run))))
+    go : (o : Opened) → openAnswer run encodedMax ≡ o → ReceivedIn (untagged o (payloadOf (decoded run)))
     go (O.Body kind zero n) e = tt
     go (O.Body kind (suc t) n) e =
         let b = decoded run in

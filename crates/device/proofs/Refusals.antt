@@ -3,7 +3,7 @@
 -- TAKEN has it as well; the radio and the result of each test are arguments, so that every case computes.
 -- Assumes nothing.
 use Prim.Native.Nat.{ℕ, zero, suc, _<_}
-use mathlib.Core.Path.{_≡_, refl, ap}
+use mathlib.Core.Path.{_≡_, refl, ap, _∙_}
 use mathlib.Core.Bool.{Bool, true, false, cond, not, _&&_}
 use mathlib.Core.List.{List, [], _∷_}
 use mathlib.Core.Option.{Option, none, some}
@@ -16,10 +16,13 @@ use Rattle.kind.specs.Kinds.{GET-INFO, SET-CONFIG, TX, RX-START, RX-STOP}
 use Rattle.board.specs.Board.{Board}
 use Rattle.device.specs.State.{Setting, Tx, Radio, free, listening, onAir, orphan, configuring, Packet, State, link, withLink, withInbox, deaf, free?, runs?, stalled}
 use Rattle.device.specs.State.{Event, byte, tick, clear, busy, sent, configured, fault, packet, request, disconnect, Input, nothing}
-use Rattle.device.specs.Messages.{Message, err, EFRAME}
+use Rattle.device.specs.Messages.{Message, EFRAME}
 use Rattle.device.specs.Frames.{Received, damaged, command, received, objection, settingOf, txOf}
+use Rattle.device.specs.Reading.{brings}
 use Rattle.device.specs.Events.{Out, taken, refused, next, afterTx, onTx, onSet, onCommand, unless, onReceived, onRun, onByte, unlessStalled, onClear, onBusy, onSent, inForce, onConfigured, onFault, onPacket, onRequest, ticksMax, onTick, onDisconnect, onEvent, unlessRoom, step}
-use Rattle.device.specs.Demands.{listens?, onAir?, fits, byte?, Exact, Demand1, Demand2}
+use Rattle.device.specs.Due.{listens?, onAir?, fits, byte?, errDue}
+use Rattle.device.specs.Demands.{Exact, Demand1, Demand2}
+use Rattle.device.proofs.Laws.{run-brings}
 
 -- ---- what demand 1 says of an answer
 
@@ -185,10 +188,10 @@ demand1 b s i = exact-room (ltb (i .room) 283) b (i .event) s
 -- a run that isn't empty and is damaged
 on-damage : (b : Board) (run : List ℕ) (s : State)
     → 0 < length run
-    → received run ≡ damaged
-    → onRun b run s ≡ taken (withLink (link true 0 []) s) (err EFRAME 0 ∷ []) nothing
+    → brings run ≡ damaged
+    → onRun b run s ≡ taken (withLink (link true 0 []) s) (errDue EFRAME 0 ∷ []) nothing
 on-damage b [] s nonempty d = absurd (not-suc-le-zero nonempty)
-on-damage b (r ∷ rs) s nonempty d = ap (λ x. onReceived b x (withLink (link true 0 []) s)) d
+on-damage b (r ∷ rs) s nonempty d = ap (λ x. onReceived b x (withLink (link true 0 []) s)) (run-brings (r ∷ rs) ∙ d)
 
 -- 00, demand 2, damaged frames, for every state
 pub demand2 : (b : Board) (s : State) (room : ℕ) → Demand2 b s room

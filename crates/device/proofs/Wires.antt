@@ -21,7 +21,8 @@ use Rattle.form.specs.Forms.{exactly}
 use Rattle.answer.specs.Answers.{answerForm, answerKind, answerName}
 use Rattle.answer.specs.Ranges.{AnswerIn}
 use Rattle.answer.proofs.Laws.{answer-small}
-use Rattle.device.specs.Messages.{Message, payload, wire, wires, Frame, found, frameIn, framesIn, frames, seen}
+use Rattle.device.specs.Messages.{Message, payload, wire, wires, Frame, seen}
+use Rattle.device.specs.Reading.{found, frameIn, framesIn, frames}
 
 -- what the writer of answers takes: values of their types, a tag that the message may have, and a payload of the answer's form
 pub record Sendable (m : Message) : Type 0 where

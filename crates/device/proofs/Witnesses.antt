@@ -1,21 +1,26 @@
--- Demand 3 and the drop count on single histories, by computing. They follow from the theorems; here the wrong devices of must-fail/ that break one of the two are
--- seen to break what is demanded, and not only its proof.
+-- The demands on single histories, by computing: the number of an event, what is written and ordered, demand 3 and the drop count. They follow from the theorems; here
+-- the wrong devices of must-fail/ are seen to break what is demanded, and not only its proof: each has another value where one of these has its own.
 -- Assumes nothing.
 use Prim.Native.Nat.{ℕ, zero, suc}
 use mathlib.Core.Path.{_≡_, refl}
-use mathlib.Core.Bool.{true}
+use mathlib.Core.Bool.{true, false}
 use mathlib.Core.List.{List, [], _∷_, _++_, map}
 use lib.Dec.{leb}
-use lib.IntN.{pos}
+use lib.IntN.{pos, negsuc}
 use lib.ListN.{length, replicate}
 use Rattle.cobs.specs.Encoding.{encoded}
 use Rattle.frame.specs.Body.{body}
-use Rattle.kind.specs.Kinds.{SET-CONFIG, TX, RX-START}
-use Rattle.board.specs.Board.{sx1262}
-use Rattle.device.specs.State.{Packet, Event, tick, sent, fault, packet, request, disconnect, byte, Input}
-use Rattle.device.specs.Messages.{frames}
+use Rattle.kind.specs.Kinds.{PING, GET-INFO, SET-CONFIG, TX, RX-START, RX-STOP}
+use Rattle.answer.specs.declared.Answer.the-variants as A
+use Rattle.board.specs.Board.{sx1262, infoOf, uidsOf}
+use Rattle.device.specs.State.{Packet, Event, byte, tick, busy, sent, configured, fault, packet, request, disconnect, Input, Order, nothing, standby, configure, transmit}
+use Rattle.device.specs.Messages.{Message, message, wires, EFRAME, ERADIO, ENOTCONFIGURED}
+use Rattle.device.specs.Events.{Reply}
+use Rattle.device.specs.Reading.{frames}
 use Rattle.device.specs.Tally.{Entry, entry, withRadio, waits, dones, newlyReported}
-use Rattle.device.specs.Demands.{System, defined, onward, history, answer, Closed, was-reported, was-dropped, closed, withRadioOf, waitingOf, dropCounts}
+use Rattle.device.specs.Observer.{settingIn}
+use Rattle.device.specs.Due.{numberDue, errDue, doneDue, messagesDue, orderDue}
+use Rattle.device.specs.Demands.{System, History, defined, onward, history, answer, Closed, was-reported, was-dropped, closed, withRadioOf, waitingOf, dropCounts}
 use Rattle.device.specs.Scripts.{lent, bytesIn, sends, lora, ready}
 use Rattle.device.proofs.Computing.{computes}
 
@@ -41,6 +46,33 @@ Places is before now =
 abbrev Few : List Input → Type 0
 Few is = leb (length (withRadioOf device (history device is .device) ++ waitingOf device (history device is .device))) 16 ≡ true
 
+-- ---- demand 1 and what is written and ordered, at one event more
+
+-- `demand1-seen`: the number, and the one that is due
+abbrev Numbers : List Input → Event → ℕ → Type 0
+Numbers is e n =
+    (answer device (history device is) (lent e) .number ≡ n)
+    × (numberDue 283 e (history device is .observer) ≡ n)
+
+-- `contents`: the answer, and what is due
+record Seen : Type 0 where
+  answers : Reply
+  messages : List Message
+  order : Order
+
+abbrev at : History device → Event → Seen
+at h e =
+    record {
+      answers = answer device h (lent e);
+      messages = messagesDue sx1262 0 e (h .tally) (h .observer);
+      order = orderDue sx1262 0 e (h .tally) (h .observer);
+    }
+
+-- the bytes and their count are those of these messages, and this is the order; and both are due
+abbrev Gives : List Input → Event → List Message → Order → Type 0
+Gives is e ms o =
+    at (history device is) e ≡ record { answers = record { number = 0; count = length (wires ms); bytes = wires ms; order = o }; messages = ms; order = o }
+
 -- ---- scripts
 
 -- a TX with skip_cad: on air at once, if the radio is free
@@ -51,63 +83,124 @@ tx t = sends TX t (0x01 ∷ 0x41 ∷ [])
 abbrev two : List Input
 two = ready ++ (tx 20 ++ tx 21)
 
--- ---- each TX_DONE, and each place
-
--- a SET_CONFIG falls into a transmission
-pub set-config-on-air : Reports (two ++ bytesIn (encoded (body SET-CONFIG 22 (lora 7 14)))) (byte 0) []
-unfolding computes
-set-config-on-air = (refl, refl)
-
--- an orphan has been sent
-pub orphan-sent : Reports (ready ++ (tx 20 ++ (lent disconnect ∷ []))) (sent 33792) []
-unfolding computes
-orphan-sent = (refl, refl)
-
--- a TX has been sent
-pub tx-sent : Reports two (sent 33792) (20 ∷ [])
-unfolding computes
-tx-sent = (refl, refl)
-
--- a fault while a SET_CONFIG waits, and then 1000 ticks
-abbrev faulted : List Input
-faulted = two ++ (sends SET-CONFIG 22 (lora 7 14) ++ (lent fault ∷ replicate 1000 (lent tick)))
-
-pub fault-and-silence : Places faulted (was-reported 20 ∷ was-reported 21 ∷ []) []
-unfolding computes
-fault-and-silence = (refl, refl)
-
--- 1000 ticks while a TX is on air
-pub silence : Places (ready ++ (tx 20 ++ replicate 1000 (lent tick))) (was-dropped 20 ∷ []) []
-unfolding computes
-silence = (refl, refl)
-
--- one tag three times
-pub one-tag : Places (ready ++ (tx 20 ++ (tx 20 ++ tx 20))) [] (entry 20 withRadio ∷ entry 20 waits ∷ entry 20 waits ∷ [])
-unfolding computes
-one-tag = (refl, refl)
-
--- 17 TX
 abbrev txs : ℕ → List Input
 txs zero = []
 txs (suc n) = txs n ++ tx (suc n)
 
+-- two packets: a quiet one, and one over 255 bytes
+abbrev quiet : Packet
+quiet = record { rssi = negsuc 819; snr = pos 80; freq-err = pos 7; time = 50000000; crc-valid = true; bytes = 0xAA ∷ [] }
+
+abbrev long : Packet
+long = record { rssi = pos 0; snr = pos 0; freq-err = pos 0; time = 0; crc-valid = true; bytes = replicate 256 0xBB }
+
+abbrev hears : List Packet → List Input
+hears ps = ready ++ (sends RX-START 10 [] ++ map (λ p. lent (packet p)) ps)
+
+-- ---- what is written and ordered
+
+abbrev ok : ℕ → Message
+ok t = message t A.Ok []
+
+-- the zero that ends a command
+abbrev Command : List Input → ℕ → ℕ → List ℕ → List Message → Order → Type 0
+Command is kind t p ms o = Gives (is ++ bytesIn (encoded (body kind t p))) (byte 0) ms o
+
+-- TX: a packet of 70 bytes goes on air unchanged, with skip_cad at once; without it the radio listens first under LoRa; the sixteenth is taken; without a payload, before
+-- any SET_CONFIG
+pub transmits :
+    Command ready TX 20 (0x01 ∷ replicate 70 0x41) (ok 20 ∷ []) (transmit (replicate 70 0x41) false)
+    × Command ready TX 20 (0x00 ∷ 0x41 ∷ []) (ok 20 ∷ []) (transmit (0x41 ∷ []) true)
+    × Command (ready ++ txs 15) TX 16 (0x01 ∷ 0x41 ∷ []) (ok 16 ∷ []) nothing
+    × Command [] TX 20 [] (errDue ENOTCONFIGURED 20 ∷ []) nothing
+unfolding computes
+transmits = (refl, refl, refl, refl)
+
+-- the outcomes of a TX: sent, with one that waits; a busy channel; a fault
+pub outcomes :
+    Gives two (sent 33792) (doneDue 0 33792 20 ∷ []) (transmit (0x41 ∷ []) false)
+    × Gives (ready ++ sends TX 20 (0x00 ∷ 0x41 ∷ [])) busy (doneDue 1 0 20 ∷ []) standby
+    × Gives (ready ++ tx 20) fault (errDue ERADIO 0 ∷ doneDue 2 0 20 ∷ []) standby
+unfolding computes
+outcomes = (refl, refl, refl)
+
+-- SET_CONFIG: it orders its parameters and LDRO, and has no answer yet; its OK comes when the radio is configured; but where its session has ended, nothing is said
+pub configures :
+    Command [] SET-CONFIG 3 (lora 12 14) [] (configure (settingIn 3 (lora 12 14) .config) true)
+    × Gives (sends SET-CONFIG 3 (lora 12 14)) configured
+    (message 3 (A.Configured (record { result = 0; owner = 1; current = settingIn 3 (lora 12 14) .config .modulation })) [] ∷ []) nothing
+    × Gives (sends SET-CONFIG 3 (lora 12 14) ++ (lent disconnect ∷ [])) configured [] standby
+unfolding computes
+configures = (refl, refl, refl)
+
+-- the rest of what a host sends: RX_STOP while a TX is on air orders nothing; a run that holds the byte 7F; a tick between the bytes of a PING; GET_INFO; a damaged frame; a
+-- disconnect with a free radio
+pub asks :
+    Command (ready ++ (sends RX-START 10 [] ++ tx 20)) RX-STOP 11 [] (ok 11 ∷ []) nothing
+    × Command [] PING 0x7F7F [] (ok 0x7F7F ∷ []) nothing
+    × Gives (bytesIn (0x03 ∷ 0x01 ∷ []) ++ (lent tick ∷ bytesIn (0x01 ∷ 0x03 ∷ 0x9D ∷ 0xC8 ∷ []))) (byte 0) (ok 1 ∷ []) nothing
+    × Command [] GET-INFO 2 [] (message 2 (A.Info (infoOf sx1262)) (uidsOf sx1262) ∷ []) nothing
+    × Gives (bytesIn (0x05 ∷ [])) (byte 0) (errDue EFRAME 0 ∷ []) nothing
+    × Gives ready disconnect [] standby
+unfolding computes
+asks = (refl, refl, refl, refl, refl, refl)
+
+-- a request: the oldest packet, with each of its values; one over 255 bytes is cut
+abbrev delivers : Packet → ℕ → List ℕ → Message
+delivers p valid bs =
+    message 0
+    (A.Rx (record { rssi = p .rssi; snr = p .snr; «freq_err» = p .freq-err; «timestamp_us» = p .time; «crc_valid» = valid; «packets_dropped» = 0; origin = 0 }))
+    bs
+
+pub delivered :
+    Gives (hears (quiet ∷ long ∷ [])) request (delivers quiet 1 (0xAA ∷ []) ∷ []) nothing
+    × Gives (hears (long ∷ [])) request (delivers long 0 (replicate 255 0xBB) ∷ []) nothing
+unfolding computes
+delivered = (refl, refl)
+
+-- ---- the causes of a refusal
+
+-- after a fault while configuring bytes are taken again; a packet does not fit while a TX is on air
+pub refuses :
+    Numbers (sends SET-CONFIG 3 (lora 7 14) ++ (lent fault ∷ [])) (byte 3) 0
+    × Numbers (ready ++ (sends RX-START 10 [] ++ tx 20)) (packet quiet) 3
+unfolding computes
+refuses = ((refl, refl), (refl, refl))
+
+-- ---- each TX_DONE, and each place
+
+-- of a SET_CONFIG that falls into a transmission; of an orphan that has been sent; of a TX that has been sent
+pub reports :
+    Reports (two ++ bytesIn (encoded (body SET-CONFIG 22 (lora 7 14)))) (byte 0) []
+    × Reports (ready ++ (tx 20 ++ (lent disconnect ∷ []))) (sent 33792) []
+    × Reports two (sent 33792) (20 ∷ [])
+unfolding computes
+reports = ((refl, refl), (refl, refl), (refl, refl))
+
+-- after a fault while a SET_CONFIG waits, and then 1000 ticks; after 1000 ticks while a TX is on air; with one tag three times
+abbrev faulted : List Input
+faulted = two ++ (sends SET-CONFIG 22 (lora 7 14) ++ (lent fault ∷ replicate 1000 (lent tick)))
+
+pub places :
+    Places faulted (was-reported 20 ∷ was-reported 21 ∷ []) []
+    × Places (ready ++ (tx 20 ++ replicate 1000 (lent tick))) (was-dropped 20 ∷ []) []
+    × Places (ready ++ (tx 20 ++ (tx 20 ++ tx 20))) [] (entry 20 withRadio ∷ entry 20 waits ∷ entry 20 waits ∷ [])
+unfolding computes
+places = ((refl, refl), (refl, refl), (refl, refl))
+
+-- of 17 TX
 pub seventeen : Few (ready ++ txs 17)
 unfolding computes
 seventeen = refl
 
 -- ---- the drop count
 
-abbrev quiet : Packet
-quiet = record { rssi = pos 0; snr = pos 0; freq-err = pos 0; time = 0; crc-valid = true; bytes = [] }
-
 -- 65 packets, and two requests: the first RX reports one lost, the second none
 abbrev heard : List Input
-heard = ready ++ (sends RX-START 10 [] ++ replicate 65 (lent (packet quiet)))
+heard = hears (replicate 65 quiet)
 
-pub one-lost : dropCounts (frames (answer device (history device heard) (lent request) .bytes)) ≡ 1 ∷ []
+pub drops :
+    (dropCounts (frames (answer device (history device heard) (lent request) .bytes)) ≡ 1 ∷ [])
+    × (dropCounts (frames (answer device (history device (heard ++ (lent request ∷ []))) (lent request) .bytes)) ≡ 0 ∷ [])
 unfolding computes
-one-lost = refl
-
-pub none-lost : dropCounts (frames (answer device (history device (heard ++ (lent request ∷ []))) (lent request) .bytes)) ≡ 0 ∷ []
-unfolding computes
-none-lost = refl
+drops = (refl, refl)

@@ -2,17 +2,18 @@
 -- Demand 1, and demand 2 for damaged frames, speak of every state of the device as 01 defines it. What is demanded after a list of events is stated for any device.
 -- proofs/ has each of them proved of the defined device, under the name that stands above it here.
 -- Assumes nothing.
-use Prim.Native.Nat.{ℕ, suc, _+_, _≤_, _<_, min}
+use Prim.Native.Nat.{ℕ, zero, suc, _+_, _≤_, _<_, min}
 use mathlib.Core.Path.{_≡_}
 use mathlib.Core.Bool.{Bool, true, false, cond, not, _&&_}
 use mathlib.Core.List.{List, [], _∷_, _++_, map}
 use lib.Dec.{ltb, eqb}
 use lib.ListN.{length, take, getD}
-use Rattle.numbers.specs.Numbers.{TAKEN, ROOM, STALL, PLACE}
-use Rattle.kind.specs.Kinds.{RX}
+use Rattle.numbers.specs.Numbers.{TAKEN}
+use Rattle.kind.specs.Kinds.{ERR, RX}
 use Rattle.rx.specs.Rx.{rxOf}
 use Rattle.buffer.specs.Lay.{lay}
 use Rattle.scalar.specs.Bytes.{Each}
+use Rattle.scalar.specs.Scalars.{number}
 use Rattle.kind.specs.declared.Name.{Name}
 use Rattle.cobs.specs.Encoding.{encoded}
 use Rattle.cobs.specs.Answers.{encodedMax}
@@ -25,64 +26,20 @@ use Rattle.verdict.specs.declared.Kinds.the-variants as K
 use Rattle.reader.specs.Reading.{receiveAnswer}
 use Rattle.writer.specs.Writing.{writeAnswer, writeLeft}
 use Rattle.board.specs.Board.{Board}
-use Rattle.device.specs.State.{RadioOf, free, listening, onAir, orphan, configuring, State, link, withLink, powerUp, held, tagsOf, free?, runs?, stalled}
+use Rattle.device.specs.State.{State, link, withLink, powerUp, held, tagsOf, stalled}
 use Rattle.device.specs.State.{Event, byte, tick, clear, busy, sent, configured, fault, packet, request, disconnect, Input, nothing}
-use Rattle.device.specs.Messages.{Message, payload, wire, wires, err, EFRAME, Frame, frame, seen, frames}
-use Rattle.device.specs.Frames.{damaged, received}
+use Rattle.device.specs.Messages.{Message, payload, wire, wires, EFRAME, Frame, frame, seen}
+use Rattle.device.specs.Frames.{Received, damaged, command}
+use Rattle.device.specs.Reading.{frames, brings}
 use Rattle.device.specs.Events.{Out, taken, refused, step, Reply, reply}
 use Rattle.device.specs.Tally.{Place, reported, dropped, withRadio, waits, Entry, entry, open?, Tally, noTally, ifTaken, tallied, wrote, dones, reportedTags, newlyReported}
-use Rattle.device.specs.Lost.{Lost, noneLost, losing}
+use Rattle.device.specs.Observer.{Observer, knowsNothing, observed}
+use Rattle.device.specs.Due.{cause, numberDue, errDue, messagesDue, orderDue}
 use Rattle.device.specs.Ranges.{InputIn}
 
 -- ---- demand 1, for every state
 
-abbrev pub listens? : {C : Type 0} → RadioOf C → Bool
-listens? free = false
-listens? (listening t) = true
-listens? (onAir t) = false
-listens? orphan = false
-listens? (configuring c) = false
-
-abbrev pub onAir? : {C : Type 0} → RadioOf C → Bool
-onAir? free = false
-onAir? (listening t) = false
-onAir? (onAir t) = true
-onAir? orphan = true
-onAir? (configuring c) = false
-
--- Whether a radio outcome fits, by the radio and whether receiving is on: 01 "What each event does". The other events are none.
-abbrev pub fits : {C : Type 0} → Event → RadioOf C → Bool → Bool
-fits (byte n) r on = true
-fits tick r on = true
-fits clear r on = listens? r
-fits busy r on = listens? r
-fits (sent airtime) r on = onAir? r
-fits configured r on = runs? r
-fits fault r on = true
-fits (packet p) r on = on && free? r
-fits request r on = true
-fits disconnect r on = true
-
-abbrev pub byte? : Event → Bool
-byte? (byte n) = true
-byte? tick = false
-byte? clear = false
-byte? busy = false
-byte? (sent airtime) = false
-byte? configured = false
-byte? fault = false
-byte? (packet p) = false
-byte? request = false
-byte? disconnect = false
-
--- the three causes of refusal, the first that applies: room is the length of the output that is lent, and wait says whether a SET_CONFIG waits or runs
-abbrev pub cause : {C : Type 0} → ℕ → Bool → RadioOf C → Bool → Event → ℕ
-cause room wait r on e =
-    cond (ltb room 283) ROOM
-    (cond (byte? e && wait) STALL
-    (cond (not (fits e r on)) PLACE
-    TAKEN))
-
+-- the cause of a refusal, by the state
 abbrev pub causeIn : State → Input → ℕ
 causeIn s i = cause (i .room) (stalled (s .air)) (s .air .radio) (s .inbox .receiving) (i .event)
 
@@ -101,8 +58,8 @@ Demand1 b s i = Exact (λ (o : Out). o .number) (λ k. refused k s) (causeIn s i
 -- demand2: a run that fails step 1 draws ERR(EFRAME) with tag 0, and nothing changes but session, liveness count and run
 abbrev pub Demand2 : Board → State → ℕ → Type 0
 Demand2 b s room =
-    ltb room 283 ≡ false → stalled (s .air) ≡ false → 0 < length (s .link .run) → received (s .link .run) ≡ damaged
-    → step b s (record { room = room; event = byte 0 }) ≡ taken (withLink (link true 0 []) s) (err EFRAME 0 ∷ []) nothing
+    ltb room 283 ≡ false → stalled (s .air) ≡ false → 0 < length (s .link .run) → brings (s .link .run) ≡ damaged
+    → step b s (record { room = room; event = byte 0 }) ≡ taken (withLink (link true 0 []) s) (errDue EFRAME 0 ∷ []) nothing
 
 -- ---- a device as the demands on histories see it
 
@@ -110,9 +67,10 @@ pub record System : Type 1 where
   -- its states, and the one at power-up
   pub State : Type 0
   pub powerUp : State
-  -- what it is given: an event, with what is lent for its answer; and that each number of it is a value of its type
+  -- what it is given: an event, with output of so much room lent for its answer; and that each number of it is a value of its type
   pub Given : Type 0
   pub event : Given → Event
+  pub room : Given → ℕ
   pub GivenIn : Given → Type 0
   -- its answer in a state, and its state after that
   pub answer : State → Given → Reply
@@ -129,6 +87,7 @@ defined b =
       powerUp = powerUp;
       Given = Input;
       event = λ i. i .event;
+      room = λ i. i .room;
       GivenIn = InputIn;
       answer = λ s i. reply (step b s i);
       next = λ s i. step b s i .next;
@@ -138,11 +97,11 @@ defined b =
 
 -- ---- histories: every list of events from power-up, refused ones included
 
--- what a list of events has come to: the device, the tally, the packets lost, and all bytes written, in their order
+-- what a list of events has come to: the device, the tally, what an observer knows beside it, and all bytes written, in their order
 pub record History (y : System) : Type 0 where
   pub device : y .State
   pub tally : Tally
-  pub lost : Lost
+  pub observer : Observer
   pub bytes : List ℕ
 
 -- the answer to one event more
@@ -151,11 +110,10 @@ answer y h i = y .answer (h .device) i
 
 unfoldable pub onward : (y : System) → History y → y .Given → History y
 onward y h i =
-    let t = tallied (y .event i) (answer y h i) (h .tally) in
     record {
       device = y .next (h .device) i;
-      tally = t;
-      lost = losing (y .event i) (answer y h i) (h .tally) t (h .lost);
+      tally = tallied (y .event i) (answer y h i) (h .tally);
+      observer = observed (y .event i) (answer y h i) (h .tally) (h .observer);
       bytes = h .bytes ++ answer y h i .bytes;
     }
 
@@ -164,10 +122,64 @@ after y h [] = h
 after y h (i ∷ is) = after y (onward y h i) is
 
 abbrev pub begins : (y : System) → History y
-begins y = record { device = y .powerUp; tally = noTally; lost = noneLost; bytes = [] }
+begins y = record { device = y .powerUp; tally = noTally; observer = knowsNothing; bytes = [] }
 
 unfoldable pub history : (y : System) → List (y .Given) → History y
 history y is = after y (begins y) is
+
+-- ---- demand 1, after every list of events, by what was seen
+
+-- demand1-seen: the number of one event more is the cause's that the observer sees; a refusal writes nothing, orders nothing and changes nothing
+pub record Demand1Seen (y : System) (is : List (y .Given)) (i : y .Given) : Type 0 where
+  pub tells : answer y (history y is) i .number ≡ numberDue (y .room i) (y .event i) (history y is .observer)
+  pub stays : (n : ℕ) → answer y (history y is) i .number ≡ suc n
+      → (answer y (history y is) i .bytes ≡ []) × (answer y (history y is) i .order ≡ nothing) × (y .next (history y is .device) i ≡ history y is .device)
+
+-- ---- what is written and ordered
+
+-- contents: the bytes of one event more are the frames of the messages that are due, and the order is the one that is due; as many bytes are written as are counted
+pub record Contents (b : Board) (y : System) (is : List (y .Given)) (i : y .Given) : Type 0 where
+  pub count : answer y (history y is) i .count ≡ length (answer y (history y is) i .bytes)
+  pub bytes : answer y (history y is) i .bytes
+      ≡ wires (messagesDue b (answer y (history y is) i .number) (y .event i) (history y is .tally) (history y is .observer))
+  pub order : answer y (history y is) i .order
+      ≡ orderDue b (answer y (history y is) i .number) (y .event i) (history y is .tally) (history y is .observer)
+
+-- ---- demand 2, damaged frames, by what was seen
+
+-- a zero ends the observer's run, and that fails step 1
+abbrev pub damaged? : Received → Bool
+damaged? damaged = true
+damaged? (command kind t p) = false
+
+abbrev pub runDamaged : List ℕ → Bool
+runDamaged [] = false
+runDamaged (r ∷ rs) = damaged? (brings (r ∷ rs))
+
+abbrev pub endsDamaged : Event → List ℕ → Bool
+endsDamaged (byte zero) run = runDamaged run
+endsDamaged (byte (suc n)) run = false
+endsDamaged tick run = false
+endsDamaged clear run = false
+endsDamaged busy run = false
+endsDamaged (sent airtime) run = false
+endsDamaged configured run = false
+endsDamaged fault run = false
+endsDamaged (packet p) run = false
+endsDamaged request run = false
+endsDamaged disconnect run = false
+
+-- how many ERR(EFRAME) with tag 0 are among some frames
+unfoldable pub eframes : List Frame → ℕ
+eframes [] = 0
+eframes (frame k t p ∷ fs) = cond (eqb k ERR && (eqb t 0 && eqb (number p) EFRAME)) 1 0 + eframes fs
+
+-- demand2-seen: one event more draws ERR(EFRAME) with tag 0, once, where it ends a damaged run, and else not; and there it writes nothing else and orders nothing
+pub record Demand2Seen (y : System) (is : List (y .Given)) (i : y .Given) : Type 0 where
+  pub tells : eframes (frames (answer y (history y is) i .bytes))
+      ≡ ifTaken (answer y (history y is) i .number) (cond (endsDamaged (y .event i) (history y is .tally .run)) 1 0) 0
+  pub alone : answer y (history y is) i .number ≡ TAKEN → endsDamaged (y .event i) (history y is .tally .run) ≡ true
+      → (answer y (history y is) i .bytes ≡ wire (errDue EFRAME 0)) × (answer y (history y is) i .order ≡ nothing)
 
 -- ---- demand 2, the bytes: what an event writes is read back as the messages written
 
@@ -282,12 +294,12 @@ request? request = true
 request? disconnect = false
 
 -- a request that is taken while packets are held
-abbrev pub due : Event → ℕ → Lost → Bool
-due e n l = request? e && ifTaken n (ltb 0 (l .here)) false
+abbrev pub due : Event → ℕ → Observer → Bool
+due e n k = request? e && ifTaken n (ltb 0 (length (k .inbox .ring))) false
 
 -- drop-count: an RX comes when it is due, and reports as many packets as were lost, up to 65,535
 abbrev pub DropCount : (y : System) → List (y .Given) → Type 0
 DropCount y is =
     (i : y .Given) → y .GivenIn i
     → dropCounts (frames (answer y (history y is) i .bytes))
-    ≡ cond (due (y .event i) (answer y (history y is) i .number) (history y is .lost)) (min (history y is .lost .lost) 65535 ∷ []) []
+    ≡ cond (due (y .event i) (answer y (history y is) i .number) (history y is .observer)) (min (history y is .observer .inbox .drops) 65535 ∷ []) []

@@ -296,12 +296,13 @@ unlessRoom false b e s = onEvent b e s
 unfoldable pub step : Board → State → Input → Out
 step b s i = unlessRoom (ltb (i .room) roomMin) b (i .event) s
 
--- ---- the answer as it is seen from outside: the number, the bytes written, the order
+-- ---- the answer as it is seen from outside: the number, how many bytes were written, these bytes, the order
 
 pub record Reply : Type 0 where
   pub number : ℕ
+  pub count : ℕ
   pub bytes : List ℕ
   pub order : Order
 
 abbrev pub reply : Out → Reply
-reply o = record { number = o .number; bytes = wires (o .written); order = o .order }
+reply o = record { number = o .number; count = length (wires (o .written)); bytes = wires (o .written); order = o .order }

@@ -6,7 +6,13 @@ use mathlib.Core.List.{List, [], _∷_}
 use mathlib.Core.Option.{Option, none, some}
 use lib.Dec.{leb, eqb}
 use lib.ListN.{length}
+use Rattle.cobs.specs.Decoding.{decoded}
+use Rattle.cobs.specs.Answers.{encodedMax}
 use Rattle.scalar.specs.Scalars.{get}
+use Rattle.frame.specs.Body.{payloadOf}
+use Rattle.frame.specs.Reading.{openAnswer}
+use Rattle.frame.specs.declared.Opened.{Opened}
+use Rattle.frame.specs.declared.Opened.the-variants as O
 use Rattle.kind.specs.Kinds.{SET-CONFIG, TX, RX-START, RX-STOP, isCommand}
 use Rattle.modulation.specs.Lora.{loraSize}
 use Rattle.modulation.specs.Fsk.{fskSize, sync-word-len}
@@ -15,7 +21,7 @@ use Rattle.command.specs.Commands.{flags, flagsSize, flagsMax, packetMax, packe
 use Rattle.board.specs.Board.{Board, txMax}
 use Rattle.board.specs.Params.{paramsGood}
 use Rattle.device.specs.State.{Config, Setting, Tx, State, open#}
-use Rattle.device.specs.Messages.{Frame, frame, frameIn, EPARAM, ELENGTH, ENOTCONFIGURED, EMODULATION, EUNKNOWN-CMD, EBUSY}
+use Rattle.device.specs.Messages.{EPARAM, ELENGTH, ENOTCONFIGURED, EMODULATION, EUNKNOWN-CMD, EBUSY}
 
 -- ---- step 1
 
@@ -24,15 +30,15 @@ pub data Received : Type 0 where
   damaged : Received
   command : ℕ → ℕ → List ℕ → Received
 
--- a tag of zero is damage too, for any type
-abbrev pub untagged : List Frame → Received
-untagged [] = damaged
-untagged (frame k zero p ∷ fs) = damaged
-untagged (frame k (suc t) p ∷ fs) = command k (suc t) p
+-- a run that opens has a tag, and a tag of zero is damage too, for any type; p is its payload
+abbrev pub untagged : Opened → List ℕ → Received
+untagged (O.Body k zero n) p = damaged
+untagged (O.Body k (suc t) n) p = command k (suc t) p
+untagged (O.Refused r) p = damaged
 
 -- damage: a run over 282 bytes, bad stuffing, a body of a wrong length, a wrong check, a tag of zero
 unfoldable pub received : List ℕ → Received
-received run = untagged (frameIn run)
+received run = untagged (openAnswer run encodedMax) (payloadOf (decoded run))
 
 -- ---- steps 2 to 7
 

@@ -2,8 +2,10 @@ pub mod State
 pub mod Messages
 pub mod Frames
 pub mod Events
+pub mod Reading
 pub mod Tally
-pub mod Lost
+pub mod Observer
+pub mod Due
 pub mod Ranges
 pub mod Demands
 pub mod Scripts

@@ -3,14 +3,8 @@
 use Prim.Native.Nat.{ℕ}
 use mathlib.Core.Bool.{Bool, true, false}
 use mathlib.Core.List.{List, [], _∷_, _++_}
-use Rattle.cobs.specs.Decoding.{decoded}
-use Rattle.cobs.specs.Answers.{encodedMax}
-use Rattle.frame.specs.Body.{body, payloadOf}
+use Rattle.frame.specs.Body.{body}
 use Rattle.frame.specs.Body as B
-use Rattle.frame.specs.Reading.{openAnswer}
-use Rattle.frame.specs.Stream.{runs}
-use Rattle.frame.specs.declared.Opened.{Opened}
-use Rattle.frame.specs.declared.Opened.the-variants as O
 use Rattle.rx.specs.declared.Rx.{Rx}
 use Rattle.answer.specs.Answers.{answerKind, answerBytes}
 use Rattle.answer.specs.declared.Answer.{Answer}
@@ -126,28 +120,10 @@ unfoldable pub wires : List Message → List ℕ
 wires [] = []
 wires (m ∷ ms) = wire m ++ wires ms
 
--- ---- and what is read off bytes on the wire
+-- ---- a message as it is seen on the wire: type, tag and payload
 
--- a frame that was opened: type, tag and payload
 pub data Frame : Type 0 where
   frame : ℕ → ℕ → List ℕ → Frame
 
--- a message as it is seen on the wire
 abbrev pub seen : Message → Frame
 seen m = frame (answerKind (m .answer)) (m .tag) (payload m)
-
--- of a run whose stuffing, length or check is wrong there is none
-abbrev pub found : Opened → List ℕ → List Frame
-found (O.Body k t n) p = frame k t p ∷ []
-found (O.Refused r) p = []
-
-unfoldable pub frameIn : List ℕ → List Frame
-frameIn run = found (openAnswer run encodedMax) (payloadOf (decoded run))
-
-unfoldable pub framesIn : List (List ℕ) → List Frame
-framesIn [] = []
-framesIn (r ∷ rs) = frameIn r ++ framesIn rs
-
--- the frames in some bytes
-unfoldable pub frames : List ℕ → List Frame
-frames bs = framesIn (runs [] bs)

@@ -7,8 +7,9 @@ use mathlib.Core.List.{List, [], _∷_, _++_, map}
 use lib.Dec.{eqb}
 use Rattle.kind.specs.Kinds.{SET-CONFIG, TX, OK, ERR, TX-DONE}
 use Rattle.device.specs.State.{Event, byte, tick, clear, busy, sent, configured, fault, packet, request, disconnect, Order, nothing, standby, configure, transmit, receive}
-use Rattle.device.specs.Messages.{Frame, frame, frames}
-use Rattle.device.specs.Frames.{Received, damaged, command, received}
+use Rattle.device.specs.Messages.{Frame, frame}
+use Rattle.device.specs.Frames.{Received, damaged, command}
+use Rattle.device.specs.Reading.{frames, brings}
 use Rattle.device.specs.Events.{Reply}
 
 -- ---- what it keeps
@@ -86,7 +87,7 @@ noted (command kind tag p) fs t =
 -- a run that isn't empty, ended by its zero: a session is open, with no tick yet
 abbrev pub runNoted : List ℕ → List Frame → Tally → Tally
 runNoted [] fs t = t
-runNoted (r ∷ rs) fs t = noted (received (r ∷ rs)) fs (tally [] true 0 (t .pending) (t .txs))
+runNoted (r ∷ rs) fs t = noted (brings (r ∷ rs)) fs (tally [] true 0 (t .pending) (t .txs))
 
 -- a byte
 abbrev pub byteNoted : ℕ → List Frame → Tally → Tally

@@ -13,11 +13,11 @@ use Rattle.board.specs.Board.{sx1262}
 use Rattle.device.specs.State.{State}
 use Rattle.device.specs.State as S
 use Rattle.device.specs.Events.{step, Reply}
-use Rattle.device.specs.Demands.{defined, History, history, after, onward, begins, Demand2Wire, Demand3, InTime, DropCount}
+use Rattle.device.specs.Demands.{defined, History, history, after, onward, begins, Demand1Seen, Contents, Demand2Seen, Demand2Wire, Demand3, InTime, DropCount}
 use Rattle.device.proofs.Back.{TagIn}
 use Rattle.device.proofs.Ranges.{sx1262-in}
 use Rattle.device.proofs.History as H
-use Rattle.device.proofs.Carrying.{InStep, given-in, demand2-wire-carried, demand3-carried, in-time-carried, drop-count-carried}
+use Rattle.device.proofs.Carrying.{InStep, given-in, demand1-seen-carried, contents-carried, demand2-seen-carried, demand2-wire-carried, demand3-carried, in-time-carried, drop-count-carried}
 use Rattle.control.specs.declared.Radio.{Radio}
 use Rattle.control.specs.declared.Device.{Device}
 use Rattle.slot.specs.Slots.{commandsSize}
@@ -26,7 +26,7 @@ use Rattle.words.specs.Words.{radioTag, controlWords, answerWords}
 use Rattle.words.specs.Ranges.{DeviceIn}
 use Rattle.words.proofs.Laws.{round-trip, order-back}
 use Rattle.machine.specs.Machine.{Machine, machine, Call, Ran, runs}
-use Rattle.dongle.specs.Calls.{Lent, lent, first, machineIn, left, inWords, called}
+use Rattle.dongle.specs.Calls.{Lent, lent, first, machineIn, Left, left, inWords, called}
 use Rattle.joint.specs.Seen.{replyOf}
 use Rattle.joint.specs.Joined.{Memories, started, inputOf, CallIn, replies}
 use Rattle.joint.proofs.Stands.{RunAs, as-run, as-long, RadioAs, as-free, as-listening, as-onAir, as-orphan, as-configuring}
@@ -110,6 +110,22 @@ memories =
 joins-first : Joins first S.powerUp
 joins-first = in-words (started memories) S.powerUp (meets-first memories)
 
+-- ---- demand 1
+
+pub demand1 : (y : Lent) (c : Call) → Demand1 y c
+unfolding called answerWords
+demand1 y c =
+    let d = R.demand1 (machineIn y) c in
+    record {
+      tells = d .tells;
+      stays = λ k e. ap inWords (d .stays k e);
+    }
+
+-- a refusal changes nothing where the words are the library's own
+refused-stays : (y : Lent) (c : Call) → settled y ≡ y → (n : ℕ) → replyFrom (called y c) .number ≡ suc n → called y c .next ≡ y
+unfolding replyFrom
+refused-stays y c own n e = let d = demand1 y c in ap (λ (x : Left). x .next) (d .stays n (sym (d .tells) ∙ e)) ∙ own
+
 -- ---- every list of calls
 
 all-alike : (y : Lent) (s : State) → Joins y s → (cs : List Call) → Each CallIn cs → answers y cs ≡ replies s (map inputOf cs)
@@ -126,10 +142,12 @@ abbrev step-by-step : InStep exported (defined sx1262) inputOf Joins
 step-by-step =
     record {
       event = λ c. refl;
+      room = λ c. refl;
       givenIn = λ c i. i;
       powerUp = joins-first;
       answer = λ y s h c i. same-words y c ∙ same-reply (h .meets) c i;
       next = λ y s h c i. joins-next y s h c i;
+      stays = λ y s h c i n e. refused-stays y c (h .own) n e;
       radio = λ y s h. in-step memories .radio (machineIn y) s (h .meets);
       waiting = λ y s h. in-step memories .waiting (machineIn y) s (h .meets);
     }
@@ -137,6 +155,15 @@ step-by-step =
 module _ (cs : List Call) (l : Each CallIn cs) where
   abbrev given : Each (defined sx1262 .GivenIn) (map inputOf cs)
   given = given-in step-by-step cs l
+
+  pub demand1-seen : (c : Call) → CallIn c → Demand1Seen exported cs c
+  demand1-seen c i = demand1-seen-carried step-by-step cs l c i (H.demand1-seen sx1262 sx1262-in (map inputOf cs) given (inputOf c) i)
+
+  pub contents : (c : Call) → CallIn c → Contents sx1262 exported cs c
+  contents c i = contents-carried step-by-step cs l c i (H.contents sx1262 sx1262-in (map inputOf cs) given (inputOf c) i)
+
+  pub demand2-seen : (c : Call) → CallIn c → Demand2Seen exported cs c
+  demand2-seen c i = demand2-seen-carried step-by-step cs l c i (H.demand2-seen sx1262 sx1262-in (map inputOf cs) given (inputOf c) i)
 
   pub demand2-wire : (c : Call) → CallIn c → Demand2Wire exported cs c (step sx1262 (history (defined sx1262) (map inputOf cs) .device) (inputOf c) .written)
   demand2-wire c i = demand2-wire-carried step-by-step cs l c i (H.demand2-wire sx1262 sx1262-in (map inputOf cs) given (inputOf c) i)
@@ -150,16 +177,7 @@ module _ (cs : List Call) (l : Each CallIn cs) where
   pub drop-count : DropCount exported cs
   drop-count = drop-count-carried step-by-step cs l (H.drop-count sx1262 sx1262-in (map inputOf cs) given)
 
--- ---- demand 1
-
-pub demand1 : (y : Lent) (c : Call) → Demand1 y c
-unfolding called answerWords
-demand1 y c =
-    let d = R.demand1 (machineIn y) c in
-    record {
-      tells = d .tells;
-      stays = λ k e. ap inWords (d .stays k e);
-    }
+-- ---- demand 1, after every list of calls
 
 own-after : (cs : List Call) → Each CallIn cs → (h : History exported) (s : State) → Joins (h .device) s → let y = after exported h cs .device in settled y ≡ y
 unfolding after onward

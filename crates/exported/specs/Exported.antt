@@ -22,11 +22,12 @@ use Rattle.joint.specs.Seen.{orderIn}
 use Rattle.joint.specs.Joined.{inputOf, CallIn, replies}
 use Rattle.joint.specs.Demands.{causeIn, brought, complaint}
 
--- the number, as many bytes of the output as were written, and the order
+-- the number, how many bytes were written, as many bytes from the output's start on, and the order
 unfoldable pub replyFrom : Left → Reply
 replyFrom x =
     record {
       number = getD (x .answer) 0 0;
+      count = getD (x .answer) 1 0;
       bytes = take (getD (x .answer) 1 0) (x .out);
       order = orderIn (x .next .commands) (orderFrom (x .answer));
     }
@@ -38,6 +39,7 @@ exported =
       powerUp = first;
       Given = Call;
       event = λ c. c .event;
+      room = λ c. length (c .out);
       GivenIn = CallIn;
       answer = λ y c. replyFrom (called y c);
       next = λ y c. called y c .next;

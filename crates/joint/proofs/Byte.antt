@@ -13,7 +13,7 @@ use Rattle.frame.specs.Reading.{openAnswer}
 use Rattle.board.specs.Board.{sx1262}
 use Rattle.device.specs.State.{State}
 use Rattle.device.specs.State as S
-use Rattle.device.specs.Messages.{frameIn, err, EFRAME}
+use Rattle.device.specs.Messages.{err, EFRAME}
 use Rattle.device.specs.Frames.{Received, damaged, command, received}
 use Rattle.device.specs.Events as E
 use Rattle.device.proofs.Ranges.{AirIn, ReceivedIn, received-in}
@@ -31,7 +31,7 @@ use Rattle.joint.proofs.Commands as C
 
 -- one that is too long is damaged
 long-damaged : (run : List ℕ) → 282 < length run → received run ≡ damaged
-unfolding received frameIn openAnswer
+unfolding received openAnswer
 long-damaged run h = rw (lt-ltb 282 (length run) h)
 
 module _ {d : Device} {run m ps : List ℕ} {s : State} (h : Stands d run m ps s) (calm : stalled (d .air) ≡ false) (g : AirIn (s .air))

@@ -1,27 +1,29 @@
 -- The demands on the device in code after any list of calls from power-up: carried over from the device of the definition, since the two go in step.
 -- Assumes nothing.
-use mathlib.Core.Path.{_≡_, refl, ap, _∙_}
+use mathlib.Core.Path.{_≡_, refl, sym, ap, _∙_}
 use mathlib.Core.List.{List, map}
-use Prim.Native.Nat.{ℕ}
+use Prim.Native.Nat.{ℕ, suc}
 use Rattle.scalar.specs.Bytes.{Each}
 use Rattle.scalar.proofs.Bytes.{each-right}
 use Rattle.board.specs.Board.{sx1262}
 use Rattle.device.specs.State.{State, tagsOf}
 use Rattle.device.specs.State as S
 use Rattle.device.specs.Events.{step}
-use Rattle.device.specs.Demands.{defined, history, Demand2Wire, Demand3, InTime, DropCount}
+use Rattle.device.specs.Demands.{defined, history, Demand1Seen, Contents, Demand2Seen, Demand2Wire, Demand3, InTime, DropCount}
 use Rattle.device.proofs.Back.{TagIn}
 use Rattle.device.proofs.Ranges.{sx1262-in}
 use Rattle.device.proofs.History as H
-use Rattle.device.proofs.Carrying.{InStep, given-in, demand2-wire-carried, demand3-carried, in-time-carried, drop-count-carried}
+use Rattle.device.proofs.Carrying.{InStep, given-in, demand1-seen-carried, contents-carried, demand2-seen-carried, demand2-wire-carried, demand3-carried, in-time-carried, drop-count-carried}
 use Rattle.control.specs.declared.Radio.{Radio}
 use Rattle.control.specs.Control.{radioOf}
 use Rattle.queue.specs.Queue.{waitingTags}
-use Rattle.machine.specs.Machine.{Machine, Call}
+use Rattle.machine.specs.Machine.{Machine, Call, Ran, runs}
+use Rattle.joint.specs.Seen.{replyOf}
 use Rattle.joint.specs.Joined.{Memories, inputOf, CallIn}
 use Rattle.joint.specs.Demands.{coded}
 use Rattle.joint.proofs.Stands.{RadioAs, as-free, as-listening, as-onAir, as-orphan, as-configuring}
 use Rattle.joint.proofs.Outcomes.{tags-wait}
+use Rattle.joint.proofs.Refusals.{demand1}
 use Rattle.joint.proofs.Joint.{Meets, same-reply, meets-next, meets-first}
 
 same-held : {m : List ℕ} {r : Radio} {q : S.Radio} → RadioAs m r q → S.held (radioOf r) ≡ S.held q
@@ -38,14 +40,21 @@ same-waiting y s h =
     ∙ tags-wait (y .commands) (y .device .air .first) (s .air .waiting) (a .ring)
     (each-right TagIn (S.held (s .air .radio)) (tagsOf (s .air .waiting)) (h .ranges .air .tags))
 
+-- a refusal changes nothing
+refused-stays : (y : Machine) (c : Call) (n : ℕ) → replyOf (runs y c) .number ≡ suc n → runs y c .next ≡ y
+unfolding replyOf
+refused-stays y c n e = let d = demand1 y c in ap (λ (x : Ran). x .next) (d .stays n (sym (d .tells) ∙ e))
+
 pub in-step : (w : Memories) → InStep (coded w) (defined sx1262) inputOf Meets
 in-step w =
     record {
       event = λ c. refl;
+      room = λ c. refl;
       givenIn = λ c i. i;
       powerUp = meets-first w;
       answer = λ y s h c i. same-reply h c i;
       next = λ y s h c i. meets-next h c i;
+      stays = λ y s h c i n e. refused-stays y c n e;
       radio = λ y s h. same-held (h .stands .air .radio);
       waiting = λ y s h. same-waiting y s h;
     }
@@ -53,6 +62,15 @@ in-step w =
 module _ (w : Memories) (cs : List Call) (l : Each CallIn cs) where
   abbrev given : Each (defined sx1262 .GivenIn) (map inputOf cs)
   given = given-in (in-step w) cs l
+
+  pub demand1-seen : (c : Call) → CallIn c → Demand1Seen (coded w) cs c
+  demand1-seen c i = demand1-seen-carried (in-step w) cs l c i (H.demand1-seen sx1262 sx1262-in (map inputOf cs) given (inputOf c) i)
+
+  pub contents : (c : Call) → CallIn c → Contents sx1262 (coded w) cs c
+  contents c i = contents-carried (in-step w) cs l c i (H.contents sx1262 sx1262-in (map inputOf cs) given (inputOf c) i)
+
+  pub demand2-seen : (c : Call) → CallIn c → Demand2Seen (coded w) cs c
+  demand2-seen c i = demand2-seen-carried (in-step w) cs l c i (H.demand2-seen sx1262 sx1262-in (map inputOf cs) given (inputOf c) i)
 
   -- the messages that a call writes are those that the definition says
   pub demand2-wire : (c : Call) → CallIn c → Demand2Wire (coded w) cs c (step sx1262 (history (defined sx1262) (map inputOf cs) .device) (inputOf c) .written)

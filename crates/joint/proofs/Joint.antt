@@ -20,7 +20,7 @@ use Rattle.device.specs.State as S
 use Rattle.device.specs.Messages.{wires}
 use Rattle.device.specs.Events.{Out, Reply, reply, step, onEvent, unlessRoom}
 use Rattle.device.specs.Events as E
-use Rattle.device.proofs.Keeping.{Shape, is-free, is-listening, is-onAir, is-orphan, is-alone, is-configuring, Shaped}
+use Rattle.device.proofs.Keeping.{is-free, Shaped, none-waits}
 use Rattle.device.proofs.Keeping as K
 use Rattle.device.proofs.Ranges.{StateIn, at-power-up, sx1262-in}
 use Rattle.device.proofs.Ranges as R
@@ -67,7 +67,8 @@ module _ {x : Done} {run m p : List ℕ} {o : Out} (a : Agrees x run m p o) (out
         reply =
             let e : 0 + length (sends (x .said)) ≡ length (sends (x .said)) = omega arith in
             let b : take (0 + length (sends (x .said))) (lay 0 (sends (x .said)) out) ≡ wires (o .written) = rw e (take-laid (sends (x .said)) out) ∙ same-bytes in
-            λ j. record { number = a .number j; bytes = b j; order = a .order j };
+            let n : 0 + length (sends (x .said)) ≡ length (wires (o .written)) = e ∙ ap length same-bytes in
+            λ j. record { number = a .number j; count = n j; bytes = b j; order = a .order j };
         next = a .next;
       }
 
@@ -77,7 +78,9 @@ module _ {x : Done} {run m p : List ℕ} {o : Out} (a : Agrees x run m p o) (out
       record {
         reply =
             let b : take (0 + length (sends (x .said))) out ≡ wires (o .written) = rw q (sym (ap sends q) ∙ same-bytes) in
-            λ j. record { number = a .number j; bytes = b j; order = a .order j };
+            let e : 0 + length (sends (x .said)) ≡ length (sends (x .said)) = omega arith in
+            let n : 0 + length (sends (x .said)) ≡ length (wires (o .written)) = e ∙ ap length same-bytes in
+            λ j. record { number = a .number j; count = n j; bytes = b j; order = a .order j };
         next = a .next;
       }
 
@@ -106,15 +109,6 @@ quiet-disconnect false d = refl
 quiet-packet : (v : Bool) (p : Packet) (ps : List ℕ) (d : Device) → onPacket v p ps d .done .said ≡ []
 quiet-packet true p ps d = refl
 quiet-packet false p ps d = refl
-
--- with a free radio none waits
-none-waits : {r : S.Radio} {ws : List Tx} {o : Option Setting} {v : Bool} {k : Option Config} → Shape r ws o v k → r ≡ S.free → ws ≡ []
-none-waits is-free e = refl
-none-waits is-listening e = cc
-none-waits is-onAir e = cc
-none-waits is-orphan e = refl
-none-waits is-alone e = refl
-none-waits is-configuring e = refl
 
 module _ (y : Machine) (s : State) (h : Stood y s) (q : Shaped s) (g : StateIn s) (o : List ℕ) where
   abbrev d : Device

@@ -19,7 +19,10 @@ use Rattle.board.specs.Board.{sx1262}
 use Rattle.device.specs.State.{Packet, Event, byte, tick, clear, busy, sent, configured, fault, packet, request, disconnect}
 use Rattle.device.specs.Messages.{seen, wire, err, EFRAME}
 use Rattle.device.specs.Frames.{Received, damaged, command, received, objects}
-use Rattle.device.specs.Demands.{listens?, onAir?, Exact}
+use Rattle.device.specs.Reading.{brings}
+use Rattle.device.proofs.Laws.{run-brings}
+use Rattle.device.specs.Due.{listens?, onAir?}
+use Rattle.device.specs.Demands.{Exact}
 use Rattle.device.proofs.Refusals.{exact-taken, exact-refused}
 use Rattle.control.specs.declared.Radio.{Radio}
 use Rattle.control.specs.declared.Radio.the-variants.{Free, Listening, OnAir, Orphan, Configuring}
@@ -265,16 +268,16 @@ module _ (y : Machine) (o : List ℕ) where
   abbrev woken : Device
   woken = withLink (y .device) (link true 0 0)
 
-  damage : (n : ℕ) → 0 < n → cond (ltb encodedMax n) damaged (received (take n (y .run))) ≡ damaged
+  damage : (n : ℕ) → 0 < n → cond (ltb encodedMax n) damaged (brings (take n (y .run))) ≡ damaged
       → onRun n (y .run) (y .commands) (y .device) ≡ ruled (taken woken (seen (err EFRAME 0) ∷ []) Nothing) (y .commands)
   damage zero h e = absurd (not-suc-le-zero h)
   damage (suc n) h e = go (ltb encodedMax (suc n)) e
     where
-      go : (v : Bool) → cond v damaged (received (take (suc n) (y .run))) ≡ damaged
+      go : (v : Bool) → cond v damaged (brings (take (suc n) (y .run))) ≡ damaged
           → cond v (onReceived damaged (y .commands) woken) (onReceived (received (take (suc n) (y .run))) (y .commands) woken)
           ≡ ruled (taken woken (seen (err EFRAME 0) ∷ []) Nothing) (y .commands)
       go true f = refl
-      go false f = ap (λ (r : Received). onReceived r (y .commands) woken) f
+      go false f = ap (λ (r : Received). onReceived r (y .commands) woken) (run-brings (take (suc n) (y .run)) ∙ f)
 
   pub demand2 : Demand2 y o
   unfolding runs byteDone onZero sends bytesOf wire

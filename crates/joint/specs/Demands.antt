@@ -13,9 +13,11 @@ use Rattle.numbers.specs.Numbers.{TAKEN}
 use Rattle.buffer.specs.Lay.{lay}
 use Rattle.cobs.specs.Answers.{encodedMax}
 use Rattle.device.specs.State.{held, byte}
-use Rattle.device.specs.Messages.{wire, err, EFRAME}
-use Rattle.device.specs.Frames.{Received, damaged, received}
-use Rattle.device.specs.Demands.{cause, Exact, System}
+use Rattle.device.specs.Messages.{wire, EFRAME}
+use Rattle.device.specs.Frames.{Received, damaged}
+use Rattle.device.specs.Reading.{brings}
+use Rattle.device.specs.Due.{cause, errDue}
+use Rattle.device.specs.Demands.{Exact, System}
 use Rattle.control.specs.declared.Order.the-variants.{Nothing}
 use Rattle.control.specs.Control.{link, withLink, radioOf, stalled}
 use Rattle.queue.specs.Queue.{waitingTags}
@@ -43,7 +45,7 @@ Demand1 y c = Exact (λ (x : Ran). x .answer .number) (λ k. refusal k y (c .out
 
 -- what the run brings: one over 282 bytes is damaged
 abbrev pub brought : Machine → Received
-brought y = cond (ltb encodedMax (y .device .link .run)) damaged (received (take (y .device .link .run) (y .run)))
+brought y = cond (ltb encodedMax (y .device .link .run)) damaged (brings (take (y .device .link .run) (y .run)))
 
 -- the answer to damage: ERR(EFRAME) with tag 0, and nothing changes but session, liveness count and run
 abbrev pub complaint : Machine → List ℕ → Ran
@@ -51,8 +53,8 @@ complaint y o =
     let d = withLink (y .device) (link true 0 0) in
     record {
       next = machine d (y .run) (y .commands) (y .packets);
-      answer = record { device = d; number = TAKEN; written = length (wire (err EFRAME 0)); order = Nothing };
-      out = lay 0 (wire (err EFRAME 0)) o;
+      answer = record { device = d; number = TAKEN; written = length (wire (errDue EFRAME 0)); order = Nothing };
+      out = lay 0 (wire (errDue EFRAME 0)) o;
     }
 
 -- demand2
@@ -70,6 +72,7 @@ coded w =
       powerUp = started w;
       Given = Call;
       event = λ c. c .event;
+      room = λ c. length (c .out);
       GivenIn = CallIn;
       answer = λ y c. replyOf (runs y c);
       next = λ y c. runs y c .next;

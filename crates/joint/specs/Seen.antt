@@ -22,7 +22,12 @@ orderIn m (Configure at n ldro) = S.configure (configIn (take n (drop at m))) ld
 orderIn m (Transmit at n listen) = S.transmit (take n (drop at m)) listen
 orderIn m Receive = S.receive
 
--- the number, as many bytes of the output as were written, and the order
+-- the number, how many bytes were written, as many bytes from the output's start on, and the order
 unfoldable pub replyOf : Ran → Reply
 replyOf x =
-    record { number = x .answer .number; bytes = take (x .answer .written) (x .out); order = orderIn (x .next .commands) (x .answer .order) }
+    record {
+      number = x .answer .number;
+      count = x .answer .written;
+      bytes = take (x .answer .written) (x .out);
+      order = orderIn (x .next .commands) (x .answer .order);
+    }

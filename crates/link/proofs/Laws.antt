@@ -15,7 +15,6 @@ use Rattle.frame.specs.Body.{payloadOf}
 use Rattle.frame.specs.Reading.{openAnswer}
 use Rattle.frame.specs.declared.Opened.the-variants as O
 use Rattle.numbers.specs.declared.Refusal.{Refusal}
-use Rattle.device.specs.Messages.{frameIn}
 use Rattle.device.specs.Frames.{damaged, command, received}
 use Rattle.device.specs.Events.{roomMin}
 use Rattle.control.specs.declared.Device.{Device}
@@ -29,15 +28,15 @@ use Rattle.link.specs.Link.{fed, longer, stored, joined, onJoin, onRun, 
 
 module _ (run : List ℕ) where
   pub refused-run : {r : Refusal} → openAnswer run encodedMax ≡ O.Refused r → received run ≡ damaged
-  unfolding received frameIn
+  unfolding received
   refused-run e = rw e
 
   pub untagged-run : {k t n : ℕ} → openAnswer run encodedMax ≡ O.Body k t n → t ≡ 0 → received run ≡ damaged
-  unfolding received frameIn
+  unfolding received
   untagged-run e z = rw (e, z)
 
   pub tagged-run : {k t n : ℕ} → openAnswer run encodedMax ≡ O.Body k t n → (t ≡ 0 → ⊥) → received run ≡ command k t (payloadOf (decoded run))
-  unfolding received frameIn
+  unfolding received
   tagged-run {t = zero} e h = absurd (h refl)
   tagged-run {t = suc t} e h = rw e
 

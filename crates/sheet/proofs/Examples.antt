@@ -7,7 +7,7 @@ use mathlib.Core.Bool.{Bool, true, false}
 use mathlib.Core.List.{List, [], _∷_, _++_, map}
 use mathlib.Core.Option.{none, some}
 use lib.IntN.{pos, negsuc}
-use lib.ListN.{replicate, drop}
+use lib.ListN.{length, replicate, drop}
 use Rattle.numbers.specs.Numbers.{TAKEN, ROOM, STALL}
 use Rattle.cobs.specs.Encoding.{encoded}
 use Rattle.scalar.specs.Scalars.{column, put}
@@ -43,7 +43,7 @@ commandAfter is kind t p = runAfter is (encoded (body kind t p))
 
 -- the answer that has taken an event: messages and an order
 abbrev gives : List Message → Order → Reply
-gives ms o = record { number = TAKEN; bytes = wires ms; order = o }
+gives ms o = record { number = TAKEN; count = length (wires ms); bytes = wires ms; order = o }
 
 -- the payload of a TX with flags 0 and a packet of one byte (P C.3.1); with skip_cad
 abbrev letter : List ℕ

@@ -1,0 +1,485 @@
+-- What joins the observer to the device's state, and that each event keeps it, writes the messages that are due and gives the order that is due.
+-- The idea: what the observer knows is a function of the state, `knownOf`, but for the packets lost, of which the state counts 65,535 at most. An event's rule and what is
+-- due at it then compute to the same in every case of the radio; only the errors of a command are told in another order (`same-error`).
+-- Assumes nothing.
+use mathlib.Core.Path.{_≡_, refl, sym, ap, _∙_}
+use mathlib.Core.Bool.{Bool, true, false, cond, _&&_, _||_, not, and-false, true≢false}
+use mathlib.Core.List.{List, [], _∷_, _++_, map, append-nil}
+use mathlib.Core.Option.{Option, none, some}
+use Prim.Native.Nat.{ℕ, zero, suc, _+_, _<_, min}
+use native.Mathlib.Omega.{arith}
+use borrow.Author.Tests.{le-leb, lt-leb, ne-eqb}
+use lib.Dec.{leb, ltb, eqb, leb·suc-suc, eqb·suc-zero}
+use lib.ListN.{length, length-append}
+use Rattle.scalar.specs.Scalars.{get}
+use Rattle.kind.specs.Kinds.{SET-CONFIG, TX, RX-START, RX-STOP, isCommand}
+use Rattle.modulation.specs.Lora.{loraSize}
+use Rattle.modulation.specs.Modulations.{LORA, modulation-id, configOf}
+use Rattle.command.specs.Commands.{flags, packetOf}
+use Rattle.board.specs.Params.{paramsGood}
+use Rattle.board.specs.Board.{Board, ringMax}
+use Rattle.modulation.specs.declared.Modulation.{Modulation}
+use Rattle.modulation.specs.declared.Modulation.the-variants as M
+use Rattle.device.specs.State.{Config, Setting, Tx, Radio, free, listening, onAir, orphan, configuring, Packet, Air, Inbox, State, link, air, inbox, state, withLink, withInbox, deaf, powerUp, tagsOf, open#, free?, waits?, runs?, stalled}
+use Rattle.device.specs.State.{Event, byte, tick, clear, busy, sent, configured, fault, packet, request, disconnect, Input, Order, nothing, standby, configure, transmit, receive}
+use Rattle.device.specs.Messages.{Frame, Message, ok, okInfo, err, txDone, rx, cancelled, CANCELLED, TRANSMITTED, CHANNEL-BUSY, ERADIO, EFRAME, EUNKNOWN-CMD, EMODULATION, ELENGTH, EPARAM, EBUSY, seen}
+use Rattle.device.specs.Frames.{Received, damaged, command, received, objection, objects, unconfigured, settingOf, txOf}
+use Rattle.device.specs.Events.{Out, taken, refused, listens, listensIn, begun, idle, next, says, changed, turned, onTx, onSet, unless, onCommand, onReceived, onRun, onByte, unlessStalled, onClear, onBusy, onSent, inForce, onConfigured, heard, onFault, cut, kept, onPacket, onRequest, endSession, onTick, onDisconnect, onEvent, unlessRoom, step, roomMin, ticksMax}
+use Rattle.device.specs.Reading.{brings}
+use Rattle.device.specs.Tally.{Tally, ifTaken, wrote}
+use Rattle.device.specs.Observer.{Observer, observer, knowsNothing, radioEnds, orderNoted, sends, sessionOver, noted}
+use Rattle.device.specs.Due.{payloadError, valueError, commandError, opened, cancels, cancelsAfter, lora?, listensFirst, rests, endOrder, ifFree, atWork, endsWork, answersDue, reportsDue, deliveriesDue, messagesDue, eventOrder, orderDue}
+use Rattle.device.specs.Demands.{Closed}
+use Rattle.device.proofs.Laws.{run-brings, no-err}
+use Rattle.device.proofs.Keeping.{tallyOf}
+
+-- ---- what joins the two
+
+-- what the observer knows of a state, where n packets were lost
+abbrev pub knownOf : ℕ → State → Observer
+knownOf n s = observer (s .config) (s .air) (inbox (s .inbox .receiving) (s .inbox .ring) n)
+
+-- the observer after an answer, by the messages written
+abbrev pub knownOut : Event → Out → Tally → Observer → Observer
+knownOut e o t k = ifTaken (o .number) (noted e t (map seen (o .written)) (o .order) k) k
+
+-- what holds of an answer
+pub record Tells (b : Board) (c : List Closed) (n : ℕ) (s : State) (e : Event) (o : Out) : Type 0 where
+  pub lost : ℕ
+  pub knows : knownOut e o (tallyOf c s) (knownOf n s) ≡ knownOf lost (o .next)
+  pub drops : o .next .inbox .drops ≡ min lost 65535
+  pub written : o .written ≡ messagesDue b (o .number) e (tallyOf c s) (knownOf n s)
+  pub order : o .order ≡ orderDue b (o .number) e (tallyOf c s) (knownOf n s)
+
+-- ---- the same said twice
+
+same-begun : (v : Bool) (t : ℕ) → begun {C = Setting} v t ≡ sends v t
+same-begun true t = refl
+same-begun false t = refl
+
+same-listens : (c : Option Config) (f : ℕ) → listens c f ≡ listensFirst c f
+unfolding listens
+same-listens none f = refl
+same-listens (some c) f = go (c .modulation)
+  where
+    go : (m : Modulation) → listensIn m f ≡ (lora? m && eqb f 0)
+    go (M.Lora m) = refl
+    go (M.Fsk m) = refl
+
+same-idle : (on : Bool) → idle on ≡ rests on
+unfolding idle
+same-idle true = refl
+same-idle false = refl
+
+rests-noted : (on : Bool) (k : Observer) → orderNoted (rests on) k ≡ k
+rests-noted true k = refl
+rests-noted false k = refl
+
+same-cancels : (ws : List Tx) → cancelled (tagsOf ws) ≡ cancels ws
+same-cancels [] = refl
+same-cancels (w ∷ ws) = ap (λ (ms : List Message). txDone CANCELLED 0 (w .tag) ∷ ms) (same-cancels ws)
+
+none-due : (v : Bool) → cond v nothing nothing ≡ nothing
+none-due true = refl
+none-due false = refl
+
+-- RX_START and RX_STOP
+turned-noted : (v on : Bool) (k : Observer) → orderNoted (cond v (idle on) nothing) k ≡ k
+unfolding idle
+turned-noted true true k = refl
+turned-noted true false k = refl
+turned-noted false on k = refl
+
+started : (r : Radio) (on : Bool) → cond (free? r && not on) (idle true) nothing ≡ cond (atWork r && true) nothing (ifFree r (cond on nothing receive))
+unfolding idle
+started free true = refl
+started free false = refl
+started (listening t) on = refl
+started (onAir t) on = refl
+started orphan on = refl
+started (configuring c) on = refl
+
+stopped : (r : Radio) (on : Bool) → cond (free? r && on) (idle false) nothing ≡ cond (atWork r && true) nothing (ifFree r (cond on standby nothing))
+unfolding idle
+stopped free true = refl
+stopped free false = refl
+stopped (listening t) on = refl
+stopped (onAir t) on = refl
+stopped orphan on = refl
+stopped (configuring c) on = refl
+
+-- ---- the errors of a command, by steps and by its type
+
+length-tags : (ws : List Tx) → length (tagsOf ws) ≡ length ws
+length-tags [] = refl
+length-tags (w ∷ ws) = ap suc (length-tags ws)
+
+same-open : (r : Radio) (ws : List Tx) (p : Option Setting) → open# (air r ws p) ≡ opened r ws
+same-open free ws p = length-tags ws
+same-open (listening t) ws p = ap suc (length-tags ws)
+same-open (onAir t) ws p = ap suc (length-tags ws)
+same-open orphan ws p = length-tags ws
+same-open (configuring x) ws p = length-tags ws
+
+-- the tests of each kind of payload, for all their results
+empty-error : (p : List ℕ) → cond {A = Option ℕ} (not (eqb (length p) 0)) (some ELENGTH) none ≡ payloadError p
+empty-error [] = refl
+empty-error (x ∷ xs) = rw (eqb·suc-zero (length xs))
+
+set-tests : (lora fsk s f g : Bool)
+    → cond {A = Option ℕ} (not (lora || fsk)) (some EMODULATION) (cond (not (cond lora s f)) (some ELENGTH) (cond (not g) (some EPARAM) none))
+    ≡ cond lora (valueError s g) (cond fsk (valueError f g) (some EMODULATION))
+set-tests true fsk true f true = refl
+set-tests true fsk true f false = refl
+set-tests true fsk false f g = refl
+set-tests false true s true true = refl
+set-tests false true s true false = refl
+set-tests false true s false g = refl
+set-tests false false s f g = refl
+
+tx-tests : (size good full : Bool)
+    → cond {A = Option ℕ} (not size) (some ELENGTH) (cond (not good) (some EPARAM) (cond full (some EBUSY) none))
+    ≡ cond size (cond good (cond full (some EBUSY) none) (some EPARAM)) (some ELENGTH)
+tx-tests false good full = refl
+tx-tests true false full = refl
+tx-tests true true full = refl
+
+module _ (b : Board) (n : ℕ) where
+  abbrev Same : Option Config → ℕ → List ℕ → Type 0
+  Same k kind p = objects b (unconfigured k) n kind p ≡ commandError b k n kind p
+
+  set-error : (k : Option Config) (p : List ℕ) → Same k 3 p
+  unfolding isCommand
+  set-error none [] = refl
+  set-error (some x) [] = refl
+  set-error none (m ∷ ps) = set-tests (eqb (get modulation-id (m ∷ ps)) LORA) _ (eqb (length ps) loraSize) _ (paramsGood b (configOf (m ∷ ps)))
+  set-error (some x) (m ∷ ps) = set-tests (eqb (get modulation-id (m ∷ ps)) LORA) _ (eqb (length ps) loraSize) _ (paramsGood b (configOf (m ∷ ps)))
+
+  tx-error : (k : Option Config) (p : List ℕ) → Same k 4 p
+  unfolding isCommand
+  tx-error none p = refl
+  tx-error (some x) [] = refl
+  tx-error (some x) (f ∷ bs) =
+      rw (leb·suc-suc 1 (length bs), leb·suc-suc (length bs) 255)
+      (tx-tests (leb 1 (length bs) && leb (length bs) 255) (leb (get flags (f ∷ bs)) 1) (leb 16 n))
+
+  no-command : (k : Option Config) (kind : ℕ) (p : List ℕ) → 6 < kind → commandError b k n kind p ≡ some EUNKNOWN-CMD
+  no-command k kind p h =
+      rw (ne-eqb kind 1 (λ e. omega arith), ne-eqb kind 2 (λ e. omega arith), ne-eqb kind 3 (λ e. omega arith))
+      (rw (ne-eqb kind 4 (λ e. omega arith), ne-eqb kind 5 (λ e. omega arith), ne-eqb kind 6 (λ e. omega arith)) refl)
+
+  unknown : (k : Option Config) (kind : ℕ) (p : List ℕ) → 6 < kind → Same k kind p
+  unfolding isCommand
+  unknown k kind p h = rw (le-leb 1 kind (omega arith), lt-leb kind 6 h) (sym (no-command k kind p h))
+
+  same-error : (k : Option Config) (kind : ℕ) (p : List ℕ) → Same k kind p
+  unfolding isCommand
+  same-error k zero p = refl
+  same-error none (suc zero) p = empty-error p
+  same-error (some x) (suc zero) p = empty-error p
+  same-error none (suc (suc zero)) p = empty-error p
+  same-error (some x) (suc (suc zero)) p = empty-error p
+  same-error k (suc (suc (suc zero))) p = set-error k p
+  same-error k (suc (suc (suc (suc zero)))) p = tx-error k p
+  same-error none (suc (suc (suc (suc (suc zero))))) p = refl
+  same-error (some x) (suc (suc (suc (suc (suc zero))))) p = empty-error p
+  same-error none (suc (suc (suc (suc (suc (suc zero)))))) p = refl
+  same-error (some x) (suc (suc (suc (suc (suc (suc zero)))))) p = empty-error p
+  same-error k (suc (suc (suc (suc (suc (suc (suc m))))))) p = unknown k (suc (suc (suc (suc (suc (suc (suc m))))))) p (omega arith)
+
+module _ (b : Board) (c : List Closed) (l : ℕ) where
+  abbrev Tell : State → Event → Out → Type 0
+  Tell s e o = Tells b c l s e o
+
+  refusal : (s : State) (e : Event) (n : ℕ) → s .inbox .drops ≡ min l 65535 → Tell s e (refused (suc n) s)
+  unfolding messagesDue orderDue
+  refusal s e n d = record { lost = l; knows = refl; drops = d; written = refl; order = refl }
+
+  module _ (k : Option Config) (n : ℕ) (rs : List ℕ) (i : Inbox) (d : i .drops ≡ min l 65535) where
+    abbrev has : Bool → Radio → List Tx → Option Setting → State
+    has v r ws p = state k (link v n rs) (air r ws p) i
+
+    -- ---- the radio's outcomes
+
+    tells-clear : (v : Bool) (r : Radio) (ws : List Tx) (p : Option Setting) → Tell (has v r ws p) clear (onClear r (has v r ws p))
+    unfolding messagesDue orderDue
+    tells-clear v free ws p = refusal _ clear 2 d
+    tells-clear v (listening t) ws p = record { lost = l; knows = refl; drops = d; written = refl; order = refl }
+    tells-clear v (onAir t) ws p = refusal _ clear 2 d
+    tells-clear v orphan ws p = refusal _ clear 2 d
+    tells-clear v (configuring x) ws p = refusal _ clear 2 d
+
+    -- after a TX has ended: ms are its own messages
+    record Ends (e : Event) (v : Bool) (r : Radio) (ws : List Tx) (p : Option Setting) (ms : List Message) : Type 0 where
+      notes : (fs : List Frame) (o : Order) → noted e (tallyOf c (has v r ws p)) fs o (knownOf l (has v r ws p)) ≡ orderNoted o (radioEnds (knownOf l (has v r ws p)))
+      writes : messagesDue b 0 e (tallyOf c (has v r ws p)) (knownOf l (has v r ws p)) ≡ ms ++ cancelsAfter p ws
+      orders : orderDue b 0 e (tallyOf c (has v r ws p)) (knownOf l (has v r ws p)) ≡ endOrder p ws (knownOf l (has v r ws p))
+
+    ended : (e : Event) (v : Bool) (r : Radio) (ms : List Message) (ws : List Tx) (p : Option Setting) → Ends e v r ws p ms → Tell (has v r ws p) e (next p ws ms (has v r ws p))
+    ended e v r ms [] none h =
+        record {
+          lost = l;
+          knows = h .notes _ _ ∙ rw (same-idle (i .receiving), rests-noted);
+          drops = d;
+          written = sym (h .writes ∙ append-nil ms);
+          order = same-idle (i .receiving) ∙ sym (h .orders);
+        }
+    ended e v r ms (x ∷ xs) none h =
+        record {
+          lost = l;
+          knows = h .notes _ _ ∙ rw same-begun;
+          drops = d;
+          written = sym (h .writes ∙ append-nil ms);
+          order = ap (transmit (x .packet)) (same-listens k (x .flags)) ∙ sym (h .orders);
+        }
+    ended e v r ms ws (some x) h =
+        record {
+          lost = l;
+          knows = h .notes _ _;
+          drops = d;
+          written = ap (λ (ns : List Message). ms ++ ns) (same-cancels ws) ∙ sym (h .writes);
+          order = sym (h .orders);
+        }
+
+    tells-busy : (v : Bool) (r : Radio) (ws : List Tx) (p : Option Setting) → Tell (has v r ws p) busy (onBusy r (has v r ws p))
+    unfolding messagesDue orderDue
+    tells-busy v free ws p = refusal _ busy 2 d
+    tells-busy v (listening t) ws p = ended busy v (listening t) _ ws p (record { notes = λ fs o. refl; writes = refl; orders = refl })
+    tells-busy v (onAir t) ws p = refusal _ busy 2 d
+    tells-busy v orphan ws p = refusal _ busy 2 d
+    tells-busy v (configuring x) ws p = refusal _ busy 2 d
+
+    tells-sent : (a : ℕ) (v : Bool) (r : Radio) (ws : List Tx) (p : Option Setting) → Tell (has v r ws p) (sent a) (onSent a r (has v r ws p))
+    unfolding messagesDue orderDue
+    tells-sent a v free ws p = refusal _ (sent a) 2 d
+    tells-sent a v (listening t) ws p = refusal _ (sent a) 2 d
+    tells-sent a v (onAir t) ws p = ended (sent a) v (onAir t) _ ws p (record { notes = λ fs o. refl; writes = refl; orders = refl })
+    tells-sent a v orphan ws p = ended (sent a) v orphan _ ws p (record { notes = λ fs o. refl; writes = refl; orders = refl })
+    tells-sent a v (configuring x) ws p = refusal _ (sent a) 2 d
+
+    tells-configured : (v : Bool) (r : Radio) (ws : List Tx) (p : Option Setting) → Tell (has v r ws p) configured (onConfigured r (has v r ws p))
+    unfolding messagesDue orderDue
+    tells-configured v free ws p = refusal _ configured 2 d
+    tells-configured v (listening t) ws p = refusal _ configured 2 d
+    tells-configured v (onAir t) ws p = refusal _ configured 2 d
+    tells-configured v orphan ws p = refusal _ configured 2 d
+    tells-configured true (configuring x) ws p = record { lost = l; knows = refl; drops = d; written = refl; order = refl }
+    tells-configured false (configuring x) ws p = record { lost = l; knows = refl; drops = d; written = refl; order = refl }
+
+    tells-fault : (v : Bool) (r : Radio) (ws : List Tx) (p : Option Setting) → Tell (has v r ws p) fault (onFault r (has v r ws p))
+    unfolding messagesDue orderDue
+    tells-fault true free ws p = ended fault true free _ ws p (record { notes = λ fs o. refl; writes = refl; orders = refl })
+    tells-fault false free ws p = ended fault false free _ ws p (record { notes = λ fs o. refl; writes = refl; orders = refl })
+    tells-fault true (listening t) ws p = ended fault true (listening t) _ ws p (record { notes = λ fs o. refl; writes = refl; orders = refl })
+    tells-fault false (listening t) ws p = ended fault false (listening t) _ ws p (record { notes = λ fs o. refl; writes = refl; orders = refl })
+    tells-fault true (onAir t) ws p = ended fault true (onAir t) _ ws p (record { notes = λ fs o. refl; writes = refl; orders = refl })
+    tells-fault false (onAir t) ws p = ended fault false (onAir t) _ ws p (record { notes = λ fs o. refl; writes = refl; orders = refl })
+    tells-fault true orphan ws p = ended fault true orphan _ ws p (record { notes = λ fs o. refl; writes = refl; orders = refl })
+    tells-fault false orphan ws p = ended fault false orphan _ ws p (record { notes = λ fs o. refl; writes = refl; orders = refl })
+    tells-fault true (configuring x) ws p = record { lost = l; knows = refl; drops = d; written = refl; order = refl }
+    tells-fault false (configuring x) ws p = record { lost = l; knows = refl; drops = d; written = refl; order = refl }
+
+    -- ---- reception
+
+    -- a packet joins the ring, or the oldest is lost; u says whether there is room
+    joins : (x : Packet) (v u : Bool) (ws : List Tx) (p : Option Setting) → ltb (length (i .ring)) ringMax ≡ u → Tell (has v free ws p) (packet x) (onPacket true x (has v free ws p))
+    unfolding messagesDue orderDue
+    joins x v true ws p e = record { lost = l; knows = rw e; drops = rw e d; written = refl; order = refl }
+    joins x v false ws p e = record { lost = suc l; knows = rw e; drops = rw e (omega arith); written = refl; order = refl }
+
+    tells-packet : (x : Packet) (v : Bool) (r : Radio) (ws : List Tx) (p : Option Setting) (u : Bool) → i .receiving ≡ u → Tell (has v r ws p) (packet x) (onPacket (u && free? r) x (has v r ws p))
+    tells-packet x v r ws p false e = refusal _ (packet x) 2 d
+    tells-packet x v free ws p true e = joins x v _ ws p refl
+    tells-packet x v (listening t) ws p true e = refusal _ (packet x) 2 d
+    tells-packet x v (onAir t) ws p true e = refusal _ (packet x) 2 d
+    tells-packet x v orphan ws p true e = refusal _ (packet x) 2 d
+    tells-packet x v (configuring y) ws p true e = refusal _ (packet x) 2 d
+
+    -- ---- time
+
+    -- a session ends
+    record Over (e : Event) (r : Radio) (ws : List Tx) (p : Option Setting) : Type 0 where
+      notes : (fs : List Frame) (o : Order) → noted e (tallyOf c (has true r ws p)) fs o (knownOf l (has true r ws p)) ≡ sessionOver (knownOf l (has true r ws p))
+      writes : messagesDue b 0 e (tallyOf c (has true r ws p)) (knownOf l (has true r ws p)) ≡ []
+      orders : orderDue b 0 e (tallyOf c (has true r ws p)) (knownOf l (has true r ws p)) ≡ cond (atWork r) nothing standby
+
+    tells-end : (e : Event) (r : Radio) (ws : List Tx) (p : Option Setting) → Over e r ws p → Tell (has true r ws p) e (endSession r)
+    tells-end e free ws p h = record { lost = 0; knows = h .notes _ _; drops = refl; written = sym (h .writes); order = sym (h .orders) }
+    tells-end e (listening t) ws p h = record { lost = 0; knows = h .notes _ _; drops = refl; written = sym (h .writes); order = sym (h .orders) }
+    tells-end e (onAir t) ws p h = record { lost = 0; knows = h .notes _ _; drops = refl; written = sym (h .writes); order = sym (h .orders) }
+    tells-end e orphan ws p h = record { lost = 0; knows = h .notes _ _; drops = refl; written = sym (h .writes); order = sym (h .orders) }
+    tells-end e (configuring x) ws p h = record { lost = 0; knows = h .notes _ _; drops = refl; written = sym (h .writes); order = sym (h .orders) }
+
+    over : (r : Radio) (o : Order) → cond (atWork r && true) nothing o ≡ cond (atWork r) nothing o
+    over free o = refl
+    over (listening t) o = refl
+    over (onAir t) o = refl
+    over orphan o = refl
+    over (configuring x) o = refl
+
+    tells-disconnect : (v : Bool) (r : Radio) (ws : List Tx) (p : Option Setting) → Tell (has v r ws p) disconnect (onDisconnect v (has v r ws p))
+    unfolding messagesDue orderDue
+    tells-disconnect true r ws p = tells-end disconnect r ws p (record { notes = λ fs o. refl; writes = refl; orders = over r standby })
+    tells-disconnect false r ws p = record { lost = l; knows = refl; drops = d; written = refl; order = sym (none-due (atWork r && true)) }
+
+    -- a tick, by whether it counts and whether it makes 1000
+    tells-tick : (v : Bool) (r : Radio) (ws : List Tx) (p : Option Setting) → Tell (has v r ws p) tick (onTick (has v r ws p))
+    unfolding messagesDue orderDue
+    tells-tick false r ws p = record { lost = l; knows = refl; drops = d; written = refl; order = sym (none-due (atWork r && true)) }
+    tells-tick true r ws p = go (stalled (air r ws p)) refl (eqb (suc n) ticksMax) refl
+      where
+        go : (u : Bool) → stalled (air r ws p) ≡ u → (w : Bool) → eqb (suc n) ticksMax ≡ w → Tell (has true r ws p) tick (onTick (has true r ws p))
+        go true e w f = rw e (record { lost = l; knows = rw e; drops = d; written = refl; order = rw e (sym (none-due (atWork r && true))) })
+        go false e true f = rw (e, f) (tells-end tick r ws p (record { notes = λ fs o. rw (e, f); writes = refl; orders = rw (e, f) (over r standby) }))
+        go false e false f = rw (e, f) (record { lost = l; knows = rw (e, f); drops = d; written = refl; order = rw (e, f) (sym (none-due (atWork r && true))) })
+
+  tells-request : (k : Option Config) (n : ℕ) (rs : List ℕ) (on : Bool) (v : Bool) (a : Air) (m : ℕ) → m ≡ min l 65535 → (ps : List Packet)
+      → let s = state k (link v n rs) a (inbox on ps m) in Tell s request (onRequest ps s)
+  unfolding messagesDue orderDue
+  tells-request k n rs on v a m d [] = record { lost = l; knows = refl; drops = d; written = refl; order = sym (none-due (atWork (a .radio) && true)) }
+  tells-request k n rs on v a m d (p ∷ ps) =
+      record { lost = 0; knows = refl; drops = refl; written = ap (λ (i : ℕ). rx p i ∷ []) d; order = sym (none-due (atWork (a .radio) && true)) }
+
+  -- ---- a byte
+
+  -- the run x ∷ xs ends, and brings f; no SET_CONFIG waits or runs
+  module _ (k : Option Config) (v : Bool) (n x : ℕ) (xs : List ℕ) (i : Inbox) (d : i .drops ≡ min l 65535) where
+    abbrev old : Radio → List Tx → Option Setting → State
+    old r ws p = state k (link v n (x ∷ xs)) (air r ws p) i
+
+    abbrev woken : Radio → List Tx → Option Setting → State
+    woken r ws p = withLink (link true 0 []) (old r ws p)
+
+    abbrev Framed : Received → Radio → List Tx → Option Setting → Out → Type 0
+    Framed f r ws p o = brings (x ∷ xs) ≡ f → Tell (old r ws p) (byte 0) o
+
+    tells-damage : (r : Radio) (ws : List Tx) (p : Option Setting) → Framed damaged r ws p (says (err EFRAME 0) nothing (woken r ws p))
+    unfolding messagesDue orderDue
+    tells-damage r ws p e = record { lost = l; knows = rw e; drops = d; written = rw e; order = rw e (sym (none-due (atWork r && true))) }
+
+    tells-wrong : (kind t code : ℕ) (q : List ℕ) (r : Radio) (ws : List Tx) (p : Option Setting) → commandError b k (opened r ws) kind q ≡ some code
+        → Framed (command kind t q) r ws p (says (err code t) nothing (woken r ws p))
+    unfolding messagesDue orderDue
+    tells-wrong kind t code q r ws p h e =
+        record { lost = l; knows = rw (e, and-false (eqb kind TX), and-false (eqb kind SET-CONFIG), and-false (eqb kind RX-START), and-false (eqb kind RX-STOP)); drops = d; written = rw (e, h); order = rw (e, h) (sym (none-due (atWork r && true))) }
+
+    -- a command that is carried out, by its type
+    module _ (t : ℕ) (q : List ℕ) where
+      abbrev Right : ℕ → Radio → List Tx → Option Setting → Out → Type 0
+      Right kind r ws p o = commandError b k (opened r ws) kind q ≡ none → Framed (command kind t q) r ws p o
+
+      tells-ping : (r : Radio) (ws : List Tx) (p : Option Setting) → Right 1 r ws p (says (ok t) nothing (woken r ws p))
+      unfolding messagesDue orderDue
+      tells-ping r ws p h e = record { lost = l; knows = rw e; drops = d; written = rw (e, h); order = rw (e, h) (sym (none-due (atWork r && true))) }
+
+      tells-info : (r : Radio) (ws : List Tx) (p : Option Setting) → Right 2 r ws p (says (okInfo b t) nothing (woken r ws p))
+      unfolding messagesDue orderDue
+      tells-info r ws p h e = record { lost = l; knows = rw e; drops = d; written = rw (e, h); order = rw (e, h) (sym (none-due (atWork r && true))) }
+
+      tells-set : (r : Radio) (ws : List Tx) → runs? r ≡ false → Right 3 r ws none (onSet (settingOf t q) r (withInbox deaf (woken r ws none)))
+      unfolding messagesDue orderDue
+      tells-set free ws z h e =
+          record { lost = 0; knows = rw (e, no-err (tagsOf ws)); drops = refl; written = rw (e, h) (same-cancels ws); order = rw (e, h) }
+      tells-set (listening u) ws z h e =
+          record { lost = 0; knows = rw (e, no-err (tagsOf ws)); drops = refl; written = rw (e, h) (ap (λ (ms : List Message). txDone CANCELLED 0 u ∷ ms) (same-cancels ws)); order = rw (e, h) }
+      tells-set (onAir u) ws z h e = record { lost = 0; knows = rw e; drops = refl; written = rw (e, h); order = refl }
+      tells-set orphan ws z h e = record { lost = 0; knows = rw e; drops = refl; written = rw (e, h); order = refl }
+      tells-set (configuring y) ws z h e = absurd (true≢false z)
+
+      tells-tx : (r : Radio) (ws : List Tx) → (r ≡ free → ws ≡ []) → Right 4 r ws none (onTx (txOf t q) r (woken r ws none))
+      unfolding messagesDue orderDue
+      tells-tx free [] f h e =
+          record { lost = l; knows = rw (e, same-begun); drops = d; written = rw (e, h); order = rw (e, h) (ap (transmit (packetOf q)) (same-listens k (get flags q))) }
+      tells-tx free (w ∷ ws) f h e = absurd (let z = ap length (f refl) in omega arith)
+      tells-tx (listening u) ws f h e = record { lost = l; knows = rw e; drops = d; written = rw (e, h); order = rw (e, h) }
+      tells-tx (onAir u) ws f h e = record { lost = l; knows = rw e; drops = d; written = rw (e, h); order = refl }
+      tells-tx orphan ws f h e = record { lost = l; knows = rw e; drops = d; written = rw (e, h); order = refl }
+      tells-tx (configuring y) ws f h e = record { lost = l; knows = rw e; drops = d; written = rw (e, h); order = refl }
+
+      tells-start : (r : Radio) (ws : List Tx) (p : Option Setting) → Right 5 r ws p (turned true t (woken r ws p))
+      unfolding messagesDue orderDue
+      tells-start r ws p h e =
+          record { lost = l; knows = rw e (turned-noted (free? r && not (i .receiving)) true _); drops = d; written = rw (e, h); order = rw (e, h) (started r (i .receiving)) }
+
+      tells-stop : (r : Radio) (ws : List Tx) (p : Option Setting) → Right 6 r ws p (turned false t (woken r ws p))
+      unfolding messagesDue orderDue
+      tells-stop r ws p h e =
+          record { lost = l; knows = rw e (turned-noted (free? r && i .receiving) false _); drops = d; written = rw (e, h); order = rw (e, h) (stopped r (i .receiving)) }
+
+      right : (kind : ℕ) (r : Radio) (ws : List Tx) → (r ≡ free → ws ≡ []) → runs? r ≡ false → Right kind r ws none (onCommand b kind t q (woken r ws none))
+      right zero r ws f z h = absurd (let i : _≡_ {A = ℕ} 0 1 = cc in omega arith)
+      right (suc zero) r ws f z h = tells-ping r ws none h
+      right (suc (suc zero)) r ws f z h = tells-info r ws none h
+      right (suc (suc (suc zero))) r ws f z h = tells-set r ws z h
+      right (suc (suc (suc (suc zero)))) r ws f z h = tells-tx r ws f h
+      right (suc (suc (suc (suc (suc zero))))) r ws f z h = tells-start r ws none h
+      right (suc (suc (suc (suc (suc (suc zero)))))) r ws f z h = tells-stop r ws none h
+      right (suc (suc (suc (suc (suc (suc (suc y))))))) r ws f z h =
+          let e = no-command b (opened r ws) k (suc (suc (suc (suc (suc (suc (suc y))))))) q (omega arith) in
+          absurd (let u : _≡_ {A = ℕ} 0 1 = cc in omega arith)
+
+      answered : (kind : ℕ) (r : Radio) (ws : List Tx) → (r ≡ free → ws ≡ []) → runs? r ≡ false → (o : Option ℕ) → commandError b k (opened r ws) kind q ≡ o
+          → Framed (command kind t q) r ws none (unless o b kind t q (woken r ws none))
+      answered kind r ws f z (some code) h = tells-wrong kind t code q r ws none h
+      answered kind r ws f z none h = right kind r ws f z h
+
+    tells-received : (f : Received) (r : Radio) (ws : List Tx) → (r ≡ free → ws ≡ []) → runs? r ≡ false → Framed f r ws none (onReceived b f (woken r ws none))
+    unfolding objection
+    tells-received damaged r ws f z = tells-damage r ws none
+    tells-received (command kind t q) r ws f z =
+        rw (same-open r ws none, same-error b (opened r ws) k kind q) (answered t q kind r ws f z _ refl)
+
+  -- a byte that is taken, and one that is not
+  module _ (k : Option Config) (v : Bool) (n : ℕ) (i : Inbox) (d : i .drops ≡ min l 65535) where
+    abbrev at : List ℕ → Radio → List Tx → Option Setting → State
+    at rs r ws p = state k (link v n rs) (air r ws p) i
+
+    tells-taken : (y : ℕ) (rs : List ℕ) (r : Radio) (ws : List Tx) → (r ≡ free → ws ≡ []) → runs? r ≡ false → Tell (at rs r ws none) (byte y) (onByte b y (at rs r ws none))
+    unfolding messagesDue orderDue
+    tells-taken zero [] r ws f z = record { lost = l; knows = refl; drops = d; written = refl; order = sym (none-due (atWork r && true)) }
+    tells-taken zero (x ∷ xs) r ws f z = tells-received k v n x xs i d (received (x ∷ xs)) r ws f z (sym (run-brings (x ∷ xs)))
+    tells-taken (suc y) rs r ws f z = record { lost = l; knows = refl; drops = d; written = refl; order = sym (none-due (atWork r && true)) }
+
+    tells-byte : (y : ℕ) (rs : List ℕ) (r : Radio) (ws : List Tx) (p : Option Setting) → (r ≡ free → ws ≡ []) → (u : Bool) → stalled (air r ws p) ≡ u
+        → Tell (at rs r ws p) (byte y) (unlessStalled u b y (at rs r ws p))
+    tells-byte y rs r ws p f true z = refusal _ (byte y) 1 d
+    tells-byte y rs r ws none f false z = tells-taken y rs r ws f z
+    tells-byte y rs r ws (some q) f false z = absurd (true≢false z)
+
+  -- ---- all events
+
+  module _ (s : State) (d : s .inbox .drops ≡ min l 65535) (f : s .air .radio ≡ free → s .air .waiting ≡ []) where
+    abbrev v : Bool
+    v = s .link .session
+
+    abbrev r : Radio
+    r = s .air .radio
+
+    abbrev ws : List Tx
+    ws = s .air .waiting
+
+    abbrev p : Option Setting
+    p = s .air .pending
+
+    tells-event : (e : Event) → Tell s e (onEvent b e s)
+    tells-event (byte i) =
+        tells-byte (s .config) v (s .link .ticks) (s .inbox) d i (s .link .run) r ws p f _ refl
+    tells-event tick = tells-tick (s .config) (s .link .ticks) (s .link .run) (s .inbox) d v r ws p
+    tells-event clear = tells-clear (s .config) (s .link .ticks) (s .link .run) (s .inbox) d v r ws p
+    tells-event busy = tells-busy (s .config) (s .link .ticks) (s .link .run) (s .inbox) d v r ws p
+    tells-event (sent a) = tells-sent (s .config) (s .link .ticks) (s .link .run) (s .inbox) d a v r ws p
+    tells-event configured = tells-configured (s .config) (s .link .ticks) (s .link .run) (s .inbox) d v r ws p
+    tells-event fault = tells-fault (s .config) (s .link .ticks) (s .link .run) (s .inbox) d v r ws p
+    tells-event (packet x) = tells-packet (s .config) (s .link .ticks) (s .link .run) (s .inbox) d x v r ws p _ refl
+    tells-event request = tells-request (s .config) (s .link .ticks) (s .link .run) (s .inbox .receiving) v (s .air) (s .inbox .drops) d (s .inbox .ring)
+    tells-event disconnect = tells-disconnect (s .config) (s .link .ticks) (s .link .run) (s .inbox) d v r ws p
+
+    tells-room : (v : Bool) (e : Event) → Tell s e (unlessRoom v b e s)
+    tells-room true e = refusal s e 0 d
+    tells-room false e = tells-event e
+
+-- each event keeps what the observer knows, and gives what is due
+pub tells : (b : Board) (c : List Closed) (n : ℕ) (s : State) (i : Input) → s .inbox .drops ≡ min n 65535 → (s .air .radio ≡ free → s .air .waiting ≡ [])
+    → Tells b c n s (i .event) (step b s i)
+unfolding step
+tells b c n s i d f = tells-room b c n s d f (ltb (i .room) roomMin) (i .event)
