@@ -1,7 +1,7 @@
 -- What is read off the messages that are due: one ERR(EFRAME) with tag 0 where a damaged run ends, and no other; one drop count where an RX is due, and no other.
 -- The idea: apart from that ERR and that RX each message is `Plain`, which both readings pass over.
 -- Assumes nothing.
-use mathlib.Core.Path.{_≡_, refl, sym, ap, _∙_}
+use mathlib.Core.Path.{_≡_, refl, sym, ap}
 use mathlib.Core.Bool.{Bool, true, false, cond, _&&_, and-false, true≢false}
 use mathlib.Core.List.{List, [], _∷_, _++_, map}
 use mathlib.Core.Option.{Option, none, some}
@@ -22,13 +22,13 @@ use Rattle.answer.specs.Answers.{answerKind, answerBytes}
 use Rattle.answer.specs.declared.Answer.the-variants as A
 use Rattle.board.specs.Board.{Board, infoOf, uidsOf}
 use Rattle.device.specs.State.{Setting, Tx, Radio, free, listening, onAir, orphan, configuring, Packet, Air}
-use Rattle.device.specs.State.{Event, byte, tick, clear, busy, sent, configured, fault, packet, request, disconnect, nothing, runs?}
+use Rattle.device.specs.State.{Event, byte, tick, clear, busy, sent, configured, fault, packet, request, disconnect, nothing}
 use Rattle.device.specs.Messages.{Frame, frame, Message, message, payload, seen, EFRAME, ERADIO}
 use Rattle.device.specs.Frames.{Received, damaged, command}
 use Rattle.device.specs.Reading.{frameIn, tagged, brings}
 use Rattle.device.specs.Tally.{Tally, ifTaken}
 use Rattle.device.specs.Observer.{Observer}
-use Rattle.device.specs.Due.{onAir?, unlessError, judged, runBrings, byteBrings, commandError, opened, errDue, broughtAnswer, configuredAnswer, faultAnswer, inSession, answersDue, radioReport, cancels, cancelsAfter, endReports, setReports, broughtReports, reportsDue, oldest, deliveriesDue, messagesDue, broughtOrder, atWork, orderDue}
+use Rattle.device.specs.Due.{isOnAir, isConfiguring, unlessError, judged, runBrings, byteBrings, commandError, opened, errDue, broughtAnswer, configuredAnswer, faultAnswer, inSession, answersDue, radioReport, cancels, cancelsAfter, endReports, setReports, broughtReports, reportsDue, oldest, deliveriesDue, messagesDue, broughtOrder, atWork, orderDue}
 use Rattle.device.specs.Demands.{damaged?, runDamaged, endsDamaged, eframes, dropCounts, request?, due}
 
 -- ---- messages that both readings pass over
@@ -83,7 +83,7 @@ plain-either false ms ns h k = k
 
 plain-set : (a : Air) → Each Plain (setReports a)
 plain-set a =
-    plain-either (onAir? (a .radio)) [] (radioReport 2 0 (a .radio) ++ cancels (a .waiting)) tt
+    plain-either (isOnAir (a .radio)) [] (radioReport 2 0 (a .radio) ++ cancels (a .waiting)) tt
     (each-append Plain (radioReport 2 0 (a .radio)) (cancels (a .waiting)) (plain-report 2 0 (a .radio)) (plain-cancels (a .waiting)))
 
 plain-session : (v : Bool) (ms : List Message) → Each Plain ms → Each Plain (inSession v ms)
@@ -133,10 +133,10 @@ module _ (b : Board) (t : Tally) (k : Observer) where
   plain-byte zero (r ∷ rs) h = plain-run (frameIn (r ∷ rs)) h
   plain-byte (suc n) rs h = tt
 
-  plain-failed : (v : Bool) (r : Radio) → Each Plain (inSession v (faultAnswer r) ++ cond (runs? r) [] (endReports 2 0 (k .air)))
+  plain-failed : (v : Bool) (r : Radio) → Each Plain (inSession v (faultAnswer r) ++ cond (isConfiguring r) [] (endReports 2 0 (k .air)))
   plain-failed v r =
-      each-append Plain (inSession v (faultAnswer r)) (cond (runs? r) [] (endReports 2 0 (k .air)))
-      (plain-session v (faultAnswer r) (plain-fault r)) (plain-either (runs? r) [] (endReports 2 0 (k .air)) tt (plain-end 2 0 (k .air)))
+      each-append Plain (inSession v (faultAnswer r)) (cond (isConfiguring r) [] (endReports 2 0 (k .air)))
+      (plain-session v (faultAnswer r) (plain-fault r)) (plain-either (isConfiguring r) [] (endReports 2 0 (k .air)) tt (plain-end 2 0 (k .air)))
 
   plain-confirmed : (v : Bool) (r : Radio) → Each Plain (inSession v (configuredAnswer r) ++ [])
   plain-confirmed v r = each-append Plain (inSession v (configuredAnswer r)) [] (plain-session v (configuredAnswer r) (plain-configured r)) tt
@@ -211,7 +211,9 @@ module _ (b : Board) (t : Tally) (k : Observer) where
   unfolding rxOf rxBytes lay le
   dropped-back x bs h = number-le 2 (x .«packets_dropped») h
 
-  delivers : (ps : List Packet) (n : ℕ) → (eframes (map seen (oldest ps n ++ [])) ≡ 0) × (dropCounts (map seen (oldest ps n ++ [])) ≡ cond (ltb 0 (length ps)) (min n 65535 ∷ []) [])
+  delivers : (ps : List Packet) (n : ℕ)
+      → (eframes (map seen (oldest ps n ++ [])) ≡ 0)
+      × (dropCounts (map seen (oldest ps n ++ [])) ≡ cond (ltb 0 (length ps)) (min n 65535 ∷ []) [])
   unfolding eframes dropCounts answerBytes
   delivers [] n = (refl, refl)
   delivers (p ∷ ps) n = (refl, rw (lt-ltb 0 (suc (length ps)) (omega arith)) (ap (λ (i : ℕ). i ∷ []) (dropped-back _ (p .bytes) (omega arith))))

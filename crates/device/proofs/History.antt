@@ -3,7 +3,7 @@
 -- The idea: a history is good where its tally is that of its device (Keeping), and so is what the observer knows (Observing), each number is a value of its type
 -- (Ranges), and its bytes are the wires of messages that are read back (Wires); one event more keeps that.
 -- Assumes nothing.
-use mathlib.Core.Path.{_≡_, refl, sym, ap, ap₂, _∙_, subst}
+use mathlib.Core.Path.{_≡_, refl, sym, ap, ap₂, _∙_}
 use mathlib.Core.Bool.{Bool, true, false}
 use mathlib.Core.List.{List, [], _∷_, _++_, map, append-nil}
 use Prim.Native.Nat.{ℕ, zero, suc, _+_, _≤_, _<_, zero-le, min}
@@ -153,7 +153,11 @@ module _ (b : Board) (board : BoardIn b) where
   pub contents : (is : List Input) → Each InputIn is → (i : Input) → InputIn i → Contents b (defined b) is i
   contents is l i e =
       let g = good is l in
-      record { count = refl; bytes = ap wires (says-due is l i e); order = told g i e .order ∙ sym (ap₂ (orderDue b (step b (history (defined b) is .device) i .number) (i .event)) (g .agrees) (g .knows)) }
+      record {
+        count = refl;
+        bytes = ap wires (says-due is l i e);
+        order = told g i e .order ∙ sym (ap₂ (orderDue b (step b (history (defined b) is .device) i .number) (i .event)) (g .agrees) (g .knows));
+      }
 
   -- the frames on the wire are those of the messages that are due
   frames-due : (is : List Input) (l : Each InputIn is) (i : Input) (e : InputIn i)
@@ -171,7 +175,9 @@ module _ (b : Board) (board : BoardIn b) where
       let c = contents is l i e in
       record {
         tells = ap eframes (frames-due is l i e) ∙ eframes-due b (h .tally) (h .observer) n (i .event);
-        alone = λ k d. let m = damage-due b (h .tally) (h .observer) (i .event) d in (c .bytes ∙ rw (k, m .0) (append-nil _), c .order ∙ rw k (m .1));
+        alone = λ k d.
+            let m = damage-due b (h .tally) (h .observer) (i .event) d in
+            (c .bytes ∙ rw (k, m .0) (append-nil _), c .order ∙ rw k (m .1));
       }
 
   -- ---- demand 2, the bytes

@@ -1,7 +1,8 @@
 -- Laws of what a run brings, and of the tally's lists: the closed TX stand first, and what befalls the open ones goes past them.
 -- Assumes nothing.
 use mathlib.Core.Path.{_≡_, refl, ap, ap₂}
-use mathlib.Core.Bool.{false}
+use mathlib.Core.Bool.{false, _||_}
+use mathlib.Core.Option.{Option, none, some}
 use mathlib.Core.List.{List, [], _∷_, _++_, map, map-append, append-assoc}
 use Prim.Native.Nat.{ℕ, zero, suc, _+_}
 use lib.ListN.{length, length-append}
@@ -12,11 +13,12 @@ use Rattle.frame.specs.Reading.{openAnswer}
 use Rattle.frame.specs.declared.Opened.{Opened}
 use Rattle.frame.specs.declared.Opened.the-variants as O
 use Rattle.kind.specs.Kinds.{ERR}
-use Rattle.device.specs.State.{Tx, tagsOf}
+use Rattle.device.specs.State.{RadioOf, Radio, free, listening, onAir, orphan, configuring, Setting, Tx, tagsOf, free?, waits?, runs?}
 use Rattle.device.specs.Messages.{Message, cancelled, seen}
 use Rattle.device.specs.Frames.{received, untagged}
 use Rattle.device.specs.Reading.{found, frameIn, tagged, brings}
 use Rattle.device.specs.Tally.{Entry, entry, reported, dropped, withRadio, waits, openTo, radioReported, started, wrote, dones, newlyReported}
+use Rattle.device.specs.Due.{isFree, isConfiguring, reconfiguring}
 use Rattle.device.specs.Demands.{Closed, was-reported, was-dropped, closed}
 
 -- the entries of TX with the radio, and of TX that wait, by their tags
@@ -37,6 +39,26 @@ run-brings run = go (openAnswer run encodedMax)
     go (O.Body k zero n) = refl
     go (O.Body k (suc t) n) = refl
     go (O.Refused r) = refl
+
+-- ---- the radio, as the device asks of it and as an observer does
+
+pub same-free : {C : Type 0} (r : RadioOf C) → free? r ≡ isFree r
+same-free free = refl
+same-free (listening t) = refl
+same-free (onAir t) = refl
+same-free orphan = refl
+same-free (configuring c) = refl
+
+pub same-runs : {C : Type 0} (r : RadioOf C) → runs? r ≡ isConfiguring r
+same-runs free = refl
+same-runs (listening t) = refl
+same-runs (onAir t) = refl
+same-runs orphan = refl
+same-runs (configuring c) = refl
+
+pub same-stalled : (p : Option Setting) (r : Radio) → (waits? p || runs? r) ≡ reconfiguring p r
+same-stalled none r = same-runs r
+same-stalled (some c) r = refl
 
 -- ---- past the closed ones
 

@@ -2,6 +2,7 @@ pub mod Laws
 pub mod Computing
 pub mod Witnesses
 pub mod Keeping
+pub mod Errors
 pub mod Observing
 pub mod Due
 pub mod Refusals

@@ -1,36 +1,33 @@
 -- What joins the observer to the device's state, and that each event keeps it, writes the messages that are due and gives the order that is due.
--- The idea: what the observer knows is a function of the state, `knownOf`, but for the packets lost, of which the state counts 65,535 at most. An event's rule and what is
--- due at it then compute to the same in every case of the radio; only the errors of a command are told in another order (`same-error`).
+-- The idea: what the observer knows is a function of the state, `knownOf`, but for the packets lost, of which the state counts 65,535 at most. An event's rule and
+-- what is due at it then compute to the same in every case of the radio. The errors of a command are in Errors.antt.
 -- Assumes nothing.
 use mathlib.Core.Path.{_≡_, refl, sym, ap, _∙_}
-use mathlib.Core.Bool.{Bool, true, false, cond, _&&_, _||_, not, and-false, true≢false}
+use mathlib.Core.Bool.{Bool, true, false, cond, _&&_, not, and-false, true≢false}
 use mathlib.Core.List.{List, [], _∷_, _++_, map, append-nil}
 use mathlib.Core.Option.{Option, none, some}
-use Prim.Native.Nat.{ℕ, zero, suc, _+_, _<_, min}
+use Prim.Native.Nat.{ℕ, zero, suc, _+_, min}
 use native.Mathlib.Omega.{arith}
-use borrow.Author.Tests.{le-leb, lt-leb, ne-eqb}
-use lib.Dec.{leb, ltb, eqb, leb·suc-suc, eqb·suc-zero}
-use lib.ListN.{length, length-append}
+use lib.Dec.{ltb, eqb}
+use lib.ListN.{length}
 use Rattle.scalar.specs.Scalars.{get}
-use Rattle.kind.specs.Kinds.{SET-CONFIG, TX, RX-START, RX-STOP, isCommand}
-use Rattle.modulation.specs.Lora.{loraSize}
-use Rattle.modulation.specs.Modulations.{LORA, modulation-id, configOf}
+use Rattle.kind.specs.Kinds.{SET-CONFIG, TX, RX-START, RX-STOP}
 use Rattle.command.specs.Commands.{flags, packetOf}
-use Rattle.board.specs.Params.{paramsGood}
 use Rattle.board.specs.Board.{Board, ringMax}
 use Rattle.modulation.specs.declared.Modulation.{Modulation}
 use Rattle.modulation.specs.declared.Modulation.the-variants as M
-use Rattle.device.specs.State.{Config, Setting, Tx, Radio, free, listening, onAir, orphan, configuring, Packet, Air, Inbox, State, link, air, inbox, state, withLink, withInbox, deaf, powerUp, tagsOf, open#, free?, waits?, runs?, stalled}
-use Rattle.device.specs.State.{Event, byte, tick, clear, busy, sent, configured, fault, packet, request, disconnect, Input, Order, nothing, standby, configure, transmit, receive}
-use Rattle.device.specs.Messages.{Frame, Message, ok, okInfo, err, txDone, rx, cancelled, CANCELLED, TRANSMITTED, CHANNEL-BUSY, ERADIO, EFRAME, EUNKNOWN-CMD, EMODULATION, ELENGTH, EPARAM, EBUSY, seen}
-use Rattle.device.specs.Frames.{Received, damaged, command, received, objection, objects, unconfigured, settingOf, txOf}
-use Rattle.device.specs.Events.{Out, taken, refused, listens, listensIn, begun, idle, next, says, changed, turned, onTx, onSet, unless, onCommand, onReceived, onRun, onByte, unlessStalled, onClear, onBusy, onSent, inForce, onConfigured, heard, onFault, cut, kept, onPacket, onRequest, endSession, onTick, onDisconnect, onEvent, unlessRoom, step, roomMin, ticksMax}
+use Rattle.device.specs.State.{Config, Setting, Tx, Radio, free, listening, onAir, orphan, configuring, Packet, Air, Inbox, State, link, air, inbox, state, withLink, withInbox, deaf, tagsOf, free?, runs?, stalled}
+use Rattle.device.specs.State.{Event, byte, tick, clear, busy, sent, configured, fault, packet, request, disconnect, Input, Order, nothing, standby, transmit, receive}
+use Rattle.device.specs.Messages.{Frame, Message, yes, ok, okInfo, err, txDone, rx, cancelled, CANCELLED, EFRAME, seen}
+use Rattle.device.specs.Frames.{Received, damaged, command, received, objection, settingOf, txOf}
+use Rattle.device.specs.Events.{Out, taken, refused, listens, listensIn, begun, idle, next, says, turned, onTx, onSet, unless, onCommand, onReceived, onByte, unlessStalled, onClear, onBusy, onSent, onConfigured, onFault, onPacket, onRequest, endSession, onTick, onDisconnect, onEvent, unlessRoom, step, roomMin, ticksMax}
 use Rattle.device.specs.Reading.{brings}
-use Rattle.device.specs.Tally.{Tally, ifTaken, wrote}
-use Rattle.device.specs.Observer.{Observer, observer, knowsNothing, radioEnds, orderNoted, sends, sessionOver, noted}
-use Rattle.device.specs.Due.{payloadError, valueError, commandError, opened, cancels, cancelsAfter, lora?, listensFirst, rests, endOrder, ifFree, atWork, endsWork, answersDue, reportsDue, deliveriesDue, messagesDue, eventOrder, orderDue}
+use Rattle.device.specs.Tally.{Tally, ifTaken}
+use Rattle.device.specs.Observer.{Observer, observer, radioEnds, orderNoted, sends, sessionOver, noted}
+use Rattle.device.specs.Due.{commandError, opened, cancels, cancelsAfter, lora?, listensFirst, rests, endOrder, ifFree, atWork, messagesDue, orderDue}
 use Rattle.device.specs.Demands.{Closed}
 use Rattle.device.proofs.Laws.{run-brings, no-err}
+use Rattle.device.proofs.Errors.{same-open, same-error, no-command}
 use Rattle.device.proofs.Keeping.{tallyOf}
 
 -- ---- what joins the two
@@ -79,6 +76,10 @@ same-cancels : (ws : List Tx) → cancelled (tagsOf ws) ≡ cancels ws
 same-cancels [] = refl
 same-cancels (w ∷ ws) = ap (λ (ms : List Message). txDone CANCELLED 0 (w .tag) ∷ ms) (same-cancels ws)
 
+same-yes : (v : Bool) → yes v ≡ cond v 1 0
+same-yes true = refl
+same-yes false = refl
+
 none-due : (v : Bool) → cond v nothing nothing ≡ nothing
 none-due true = refl
 none-due false = refl
@@ -108,85 +109,6 @@ stopped (onAir t) on = refl
 stopped orphan on = refl
 stopped (configuring c) on = refl
 
--- ---- the errors of a command, by steps and by its type
-
-length-tags : (ws : List Tx) → length (tagsOf ws) ≡ length ws
-length-tags [] = refl
-length-tags (w ∷ ws) = ap suc (length-tags ws)
-
-same-open : (r : Radio) (ws : List Tx) (p : Option Setting) → open# (air r ws p) ≡ opened r ws
-same-open free ws p = length-tags ws
-same-open (listening t) ws p = ap suc (length-tags ws)
-same-open (onAir t) ws p = ap suc (length-tags ws)
-same-open orphan ws p = length-tags ws
-same-open (configuring x) ws p = length-tags ws
-
--- the tests of each kind of payload, for all their results
-empty-error : (p : List ℕ) → cond {A = Option ℕ} (not (eqb (length p) 0)) (some ELENGTH) none ≡ payloadError p
-empty-error [] = refl
-empty-error (x ∷ xs) = rw (eqb·suc-zero (length xs))
-
-set-tests : (lora fsk s f g : Bool)
-    → cond {A = Option ℕ} (not (lora || fsk)) (some EMODULATION) (cond (not (cond lora s f)) (some ELENGTH) (cond (not g) (some EPARAM) none))
-    ≡ cond lora (valueError s g) (cond fsk (valueError f g) (some EMODULATION))
-set-tests true fsk true f true = refl
-set-tests true fsk true f false = refl
-set-tests true fsk false f g = refl
-set-tests false true s true true = refl
-set-tests false true s true false = refl
-set-tests false true s false g = refl
-set-tests false false s f g = refl
-
-tx-tests : (size good full : Bool)
-    → cond {A = Option ℕ} (not size) (some ELENGTH) (cond (not good) (some EPARAM) (cond full (some EBUSY) none))
-    ≡ cond size (cond good (cond full (some EBUSY) none) (some EPARAM)) (some ELENGTH)
-tx-tests false good full = refl
-tx-tests true false full = refl
-tx-tests true true full = refl
-
-module _ (b : Board) (n : ℕ) where
-  abbrev Same : Option Config → ℕ → List ℕ → Type 0
-  Same k kind p = objects b (unconfigured k) n kind p ≡ commandError b k n kind p
-
-  set-error : (k : Option Config) (p : List ℕ) → Same k 3 p
-  unfolding isCommand
-  set-error none [] = refl
-  set-error (some x) [] = refl
-  set-error none (m ∷ ps) = set-tests (eqb (get modulation-id (m ∷ ps)) LORA) _ (eqb (length ps) loraSize) _ (paramsGood b (configOf (m ∷ ps)))
-  set-error (some x) (m ∷ ps) = set-tests (eqb (get modulation-id (m ∷ ps)) LORA) _ (eqb (length ps) loraSize) _ (paramsGood b (configOf (m ∷ ps)))
-
-  tx-error : (k : Option Config) (p : List ℕ) → Same k 4 p
-  unfolding isCommand
-  tx-error none p = refl
-  tx-error (some x) [] = refl
-  tx-error (some x) (f ∷ bs) =
-      rw (leb·suc-suc 1 (length bs), leb·suc-suc (length bs) 255)
-      (tx-tests (leb 1 (length bs) && leb (length bs) 255) (leb (get flags (f ∷ bs)) 1) (leb 16 n))
-
-  no-command : (k : Option Config) (kind : ℕ) (p : List ℕ) → 6 < kind → commandError b k n kind p ≡ some EUNKNOWN-CMD
-  no-command k kind p h =
-      rw (ne-eqb kind 1 (λ e. omega arith), ne-eqb kind 2 (λ e. omega arith), ne-eqb kind 3 (λ e. omega arith))
-      (rw (ne-eqb kind 4 (λ e. omega arith), ne-eqb kind 5 (λ e. omega arith), ne-eqb kind 6 (λ e. omega arith)) refl)
-
-  unknown : (k : Option Config) (kind : ℕ) (p : List ℕ) → 6 < kind → Same k kind p
-  unfolding isCommand
-  unknown k kind p h = rw (le-leb 1 kind (omega arith), lt-leb kind 6 h) (sym (no-command k kind p h))
-
-  same-error : (k : Option Config) (kind : ℕ) (p : List ℕ) → Same k kind p
-  unfolding isCommand
-  same-error k zero p = refl
-  same-error none (suc zero) p = empty-error p
-  same-error (some x) (suc zero) p = empty-error p
-  same-error none (suc (suc zero)) p = empty-error p
-  same-error (some x) (suc (suc zero)) p = empty-error p
-  same-error k (suc (suc (suc zero))) p = set-error k p
-  same-error k (suc (suc (suc (suc zero)))) p = tx-error k p
-  same-error none (suc (suc (suc (suc (suc zero))))) p = refl
-  same-error (some x) (suc (suc (suc (suc (suc zero))))) p = empty-error p
-  same-error none (suc (suc (suc (suc (suc (suc zero)))))) p = refl
-  same-error (some x) (suc (suc (suc (suc (suc (suc zero)))))) p = empty-error p
-  same-error k (suc (suc (suc (suc (suc (suc (suc m))))))) p = unknown k (suc (suc (suc (suc (suc (suc (suc m))))))) p (omega arith)
-
 module _ (b : Board) (c : List Closed) (l : ℕ) where
   abbrev Tell : State → Event → Out → Type 0
   Tell s e o = Tells b c l s e o
@@ -215,7 +137,8 @@ module _ (b : Board) (c : List Closed) (l : ℕ) where
       writes : messagesDue b 0 e (tallyOf c (has v r ws p)) (knownOf l (has v r ws p)) ≡ ms ++ cancelsAfter p ws
       orders : orderDue b 0 e (tallyOf c (has v r ws p)) (knownOf l (has v r ws p)) ≡ endOrder p ws (knownOf l (has v r ws p))
 
-    ended : (e : Event) (v : Bool) (r : Radio) (ms : List Message) (ws : List Tx) (p : Option Setting) → Ends e v r ws p ms → Tell (has v r ws p) e (next p ws ms (has v r ws p))
+    ended : (e : Event) (v : Bool) (r : Radio) (ms : List Message) (ws : List Tx) (p : Option Setting) → Ends e v r ws p ms
+        → Tell (has v r ws p) e (next p ws ms (has v r ws p))
     ended e v r ms [] none h =
         record {
           lost = l;
@@ -282,12 +205,14 @@ module _ (b : Board) (c : List Closed) (l : ℕ) where
     -- ---- reception
 
     -- a packet joins the ring, or the oldest is lost; u says whether there is room
-    joins : (x : Packet) (v u : Bool) (ws : List Tx) (p : Option Setting) → ltb (length (i .ring)) ringMax ≡ u → Tell (has v free ws p) (packet x) (onPacket true x (has v free ws p))
+    joins : (x : Packet) (v u : Bool) (ws : List Tx) (p : Option Setting) → ltb (length (i .ring)) ringMax ≡ u
+        → Tell (has v free ws p) (packet x) (onPacket true x (has v free ws p))
     unfolding messagesDue orderDue
     joins x v true ws p e = record { lost = l; knows = rw e; drops = rw e d; written = refl; order = refl }
     joins x v false ws p e = record { lost = suc l; knows = rw e; drops = rw e (omega arith); written = refl; order = refl }
 
-    tells-packet : (x : Packet) (v : Bool) (r : Radio) (ws : List Tx) (p : Option Setting) (u : Bool) → i .receiving ≡ u → Tell (has v r ws p) (packet x) (onPacket (u && free? r) x (has v r ws p))
+    tells-packet : (x : Packet) (v : Bool) (r : Radio) (ws : List Tx) (p : Option Setting) (u : Bool) → i .receiving ≡ u
+        → Tell (has v r ws p) (packet x) (onPacket (u && free? r) x (has v r ws p))
     tells-packet x v r ws p false e = refusal _ (packet x) 2 d
     tells-packet x v free ws p true e = joins x v _ ws p refl
     tells-packet x v (listening t) ws p true e = refusal _ (packet x) 2 d
@@ -338,7 +263,13 @@ module _ (b : Board) (c : List Closed) (l : ℕ) where
   unfolding messagesDue orderDue
   tells-request k n rs on v a m d [] = record { lost = l; knows = refl; drops = d; written = refl; order = sym (none-due (atWork (a .radio) && true)) }
   tells-request k n rs on v a m d (p ∷ ps) =
-      record { lost = 0; knows = refl; drops = refl; written = ap (λ (i : ℕ). rx p i ∷ []) d; order = sym (none-due (atWork (a .radio) && true)) }
+      record {
+        lost = 0;
+        knows = refl;
+        drops = refl;
+        written = ap (λ (i : ℕ). rx p i ∷ []) d ∙ rw (same-yes (p .crc-valid));
+        order = sym (none-due (atWork (a .radio) && true));
+      }
 
   -- ---- a byte
 
@@ -361,7 +292,13 @@ module _ (b : Board) (c : List Closed) (l : ℕ) where
         → Framed (command kind t q) r ws p (says (err code t) nothing (woken r ws p))
     unfolding messagesDue orderDue
     tells-wrong kind t code q r ws p h e =
-        record { lost = l; knows = rw (e, and-false (eqb kind TX), and-false (eqb kind SET-CONFIG), and-false (eqb kind RX-START), and-false (eqb kind RX-STOP)); drops = d; written = rw (e, h); order = rw (e, h) (sym (none-due (atWork r && true))) }
+        record {
+          lost = l;
+          knows = rw (e, and-false (eqb kind TX), and-false (eqb kind SET-CONFIG), and-false (eqb kind RX-START), and-false (eqb kind RX-STOP));
+          drops = d;
+          written = rw (e, h);
+          order = rw (e, h) (sym (none-due (atWork r && true)));
+        }
 
     -- a command that is carried out, by its type
     module _ (t : ℕ) (q : List ℕ) where
@@ -381,7 +318,13 @@ module _ (b : Board) (c : List Closed) (l : ℕ) where
       tells-set free ws z h e =
           record { lost = 0; knows = rw (e, no-err (tagsOf ws)); drops = refl; written = rw (e, h) (same-cancels ws); order = rw (e, h) }
       tells-set (listening u) ws z h e =
-          record { lost = 0; knows = rw (e, no-err (tagsOf ws)); drops = refl; written = rw (e, h) (ap (λ (ms : List Message). txDone CANCELLED 0 u ∷ ms) (same-cancels ws)); order = rw (e, h) }
+          record {
+            lost = 0;
+            knows = rw (e, no-err (tagsOf ws));
+            drops = refl;
+            written = rw (e, h) (ap (λ (ms : List Message). txDone CANCELLED 0 u ∷ ms) (same-cancels ws));
+            order = rw (e, h);
+          }
       tells-set (onAir u) ws z h e = record { lost = 0; knows = rw e; drops = refl; written = rw (e, h); order = refl }
       tells-set orphan ws z h e = record { lost = 0; knows = rw e; drops = refl; written = rw (e, h); order = refl }
       tells-set (configuring y) ws z h e = absurd (true≢false z)
@@ -389,7 +332,13 @@ module _ (b : Board) (c : List Closed) (l : ℕ) where
       tells-tx : (r : Radio) (ws : List Tx) → (r ≡ free → ws ≡ []) → Right 4 r ws none (onTx (txOf t q) r (woken r ws none))
       unfolding messagesDue orderDue
       tells-tx free [] f h e =
-          record { lost = l; knows = rw (e, same-begun); drops = d; written = rw (e, h); order = rw (e, h) (ap (transmit (packetOf q)) (same-listens k (get flags q))) }
+          record {
+            lost = l;
+            knows = rw (e, same-begun);
+            drops = d;
+            written = rw (e, h);
+            order = rw (e, h) (ap (transmit (packetOf q)) (same-listens k (get flags q)));
+          }
       tells-tx free (w ∷ ws) f h e = absurd (let z = ap length (f refl) in omega arith)
       tells-tx (listening u) ws f h e = record { lost = l; knows = rw e; drops = d; written = rw (e, h); order = rw (e, h) }
       tells-tx (onAir u) ws f h e = record { lost = l; knows = rw e; drops = d; written = rw (e, h); order = refl }
@@ -399,14 +348,27 @@ module _ (b : Board) (c : List Closed) (l : ℕ) where
       tells-start : (r : Radio) (ws : List Tx) (p : Option Setting) → Right 5 r ws p (turned true t (woken r ws p))
       unfolding messagesDue orderDue
       tells-start r ws p h e =
-          record { lost = l; knows = rw e (turned-noted (free? r && not (i .receiving)) true _); drops = d; written = rw (e, h); order = rw (e, h) (started r (i .receiving)) }
+          record {
+            lost = l;
+            knows = rw e (turned-noted (free? r && not (i .receiving)) true _);
+            drops = d;
+            written = rw (e, h);
+            order = rw (e, h) (started r (i .receiving));
+          }
 
       tells-stop : (r : Radio) (ws : List Tx) (p : Option Setting) → Right 6 r ws p (turned false t (woken r ws p))
       unfolding messagesDue orderDue
       tells-stop r ws p h e =
-          record { lost = l; knows = rw e (turned-noted (free? r && i .receiving) false _); drops = d; written = rw (e, h); order = rw (e, h) (stopped r (i .receiving)) }
+          record {
+            lost = l;
+            knows = rw e (turned-noted (free? r && i .receiving) false _);
+            drops = d;
+            written = rw (e, h);
+            order = rw (e, h) (stopped r (i .receiving));
+          }
 
-      right : (kind : ℕ) (r : Radio) (ws : List Tx) → (r ≡ free → ws ≡ []) → runs? r ≡ false → Right kind r ws none (onCommand b kind t q (woken r ws none))
+      right : (kind : ℕ) (r : Radio) (ws : List Tx) → (r ≡ free → ws ≡ []) → runs? r ≡ false
+          → Right kind r ws none (onCommand b kind t q (woken r ws none))
       right zero r ws f z h = absurd (let i : _≡_ {A = ℕ} 0 1 = cc in omega arith)
       right (suc zero) r ws f z h = tells-ping r ws none h
       right (suc (suc zero)) r ws f z h = tells-info r ws none h
@@ -418,12 +380,13 @@ module _ (b : Board) (c : List Closed) (l : ℕ) where
           let e = no-command b (opened r ws) k (suc (suc (suc (suc (suc (suc (suc y))))))) q (omega arith) in
           absurd (let u : _≡_ {A = ℕ} 0 1 = cc in omega arith)
 
-      answered : (kind : ℕ) (r : Radio) (ws : List Tx) → (r ≡ free → ws ≡ []) → runs? r ≡ false → (o : Option ℕ) → commandError b k (opened r ws) kind q ≡ o
-          → Framed (command kind t q) r ws none (unless o b kind t q (woken r ws none))
+      answered : (kind : ℕ) (r : Radio) (ws : List Tx) → (r ≡ free → ws ≡ []) → runs? r ≡ false
+          → (o : Option ℕ) → commandError b k (opened r ws) kind q ≡ o → Framed (command kind t q) r ws none (unless o b kind t q (woken r ws none))
       answered kind r ws f z (some code) h = tells-wrong kind t code q r ws none h
       answered kind r ws f z none h = right kind r ws f z h
 
-    tells-received : (f : Received) (r : Radio) (ws : List Tx) → (r ≡ free → ws ≡ []) → runs? r ≡ false → Framed f r ws none (onReceived b f (woken r ws none))
+    tells-received : (f : Received) (r : Radio) (ws : List Tx) → (r ≡ free → ws ≡ []) → runs? r ≡ false
+        → Framed f r ws none (onReceived b f (woken r ws none))
     unfolding objection
     tells-received damaged r ws f z = tells-damage r ws none
     tells-received (command kind t q) r ws f z =
@@ -434,7 +397,8 @@ module _ (b : Board) (c : List Closed) (l : ℕ) where
     abbrev at : List ℕ → Radio → List Tx → Option Setting → State
     at rs r ws p = state k (link v n rs) (air r ws p) i
 
-    tells-taken : (y : ℕ) (rs : List ℕ) (r : Radio) (ws : List Tx) → (r ≡ free → ws ≡ []) → runs? r ≡ false → Tell (at rs r ws none) (byte y) (onByte b y (at rs r ws none))
+    tells-taken : (y : ℕ) (rs : List ℕ) (r : Radio) (ws : List Tx) → (r ≡ free → ws ≡ []) → runs? r ≡ false
+        → Tell (at rs r ws none) (byte y) (onByte b y (at rs r ws none))
     unfolding messagesDue orderDue
     tells-taken zero [] r ws f z = record { lost = l; knows = refl; drops = d; written = refl; order = sym (none-due (atWork r && true)) }
     tells-taken zero (x ∷ xs) r ws f z = tells-received k v n x xs i d (received (x ∷ xs)) r ws f z (sym (run-brings (x ∷ xs)))

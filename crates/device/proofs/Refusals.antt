@@ -14,15 +14,15 @@ use lib.ListN.{length}
 use Rattle.numbers.specs.Numbers.{TAKEN, ROOM, STALL, PLACE}
 use Rattle.kind.specs.Kinds.{GET-INFO, SET-CONFIG, TX, RX-START, RX-STOP}
 use Rattle.board.specs.Board.{Board}
-use Rattle.device.specs.State.{Setting, Tx, Radio, free, listening, onAir, orphan, configuring, Packet, State, link, withLink, withInbox, deaf, free?, runs?, stalled}
+use Rattle.device.specs.State.{Setting, Tx, Radio, free, listening, onAir, orphan, configuring, Packet, State, link, withLink, withInbox, deaf, stalled}
 use Rattle.device.specs.State.{Event, byte, tick, clear, busy, sent, configured, fault, packet, request, disconnect, Input, nothing}
 use Rattle.device.specs.Messages.{Message, EFRAME}
 use Rattle.device.specs.Frames.{Received, damaged, command, received, objection, settingOf, txOf}
 use Rattle.device.specs.Reading.{brings}
 use Rattle.device.specs.Events.{Out, taken, refused, next, afterTx, onTx, onSet, onCommand, unless, onReceived, onRun, onByte, unlessStalled, onClear, onBusy, onSent, inForce, onConfigured, onFault, onPacket, onRequest, ticksMax, onTick, onDisconnect, onEvent, unlessRoom, step}
-use Rattle.device.specs.Due.{listens?, onAir?, fits, byte?, errDue}
+use Rattle.device.specs.Due.{isFree, isListening, isOnAir, isConfiguring, reconfiguring, fits, byte?, errDue}
 use Rattle.device.specs.Demands.{Exact, Demand1, Demand2}
-use Rattle.device.proofs.Laws.{run-brings}
+use Rattle.device.proofs.Laws.{run-brings, same-free, same-stalled}
 
 -- ---- what demand 1 says of an answer
 
@@ -126,28 +126,28 @@ exact-byte : (v : Bool) (b : Board) (n : ℕ) (s : State) → Told (cond v STALL
 exact-byte true b n s = by-refusing STALL s
 exact-byte false b n s = by-taking s _ (takes-byte b n s)
 
-exact-clear : (r : Radio) (s : State) → Told (cond (not (listens? r)) PLACE TAKEN) s (onClear r s)
+exact-clear : (r : Radio) (s : State) → Told (cond (not (isListening r)) PLACE TAKEN) s (onClear r s)
 exact-clear free s = by-refusing PLACE s
 exact-clear (listening t) s = by-taking s _ refl
 exact-clear (onAir t) s = by-refusing PLACE s
 exact-clear orphan s = by-refusing PLACE s
 exact-clear (configuring c) s = by-refusing PLACE s
 
-exact-busy : (r : Radio) (s : State) → Told (cond (not (listens? r)) PLACE TAKEN) s (onBusy r s)
+exact-busy : (r : Radio) (s : State) → Told (cond (not (isListening r)) PLACE TAKEN) s (onBusy r s)
 exact-busy free s = by-refusing PLACE s
 exact-busy (listening t) s = by-taking s _ (takes-after-tx _ s)
 exact-busy (onAir t) s = by-refusing PLACE s
 exact-busy orphan s = by-refusing PLACE s
 exact-busy (configuring c) s = by-refusing PLACE s
 
-exact-sent : (airtime : ℕ) (r : Radio) (s : State) → Told (cond (not (onAir? r)) PLACE TAKEN) s (onSent airtime r s)
+exact-sent : (airtime : ℕ) (r : Radio) (s : State) → Told (cond (not (isOnAir r)) PLACE TAKEN) s (onSent airtime r s)
 exact-sent airtime free s = by-refusing PLACE s
 exact-sent airtime (listening t) s = by-refusing PLACE s
 exact-sent airtime (onAir t) s = by-taking s _ (takes-after-tx _ s)
 exact-sent airtime orphan s = by-taking s _ (takes-after-tx _ s)
 exact-sent airtime (configuring c) s = by-refusing PLACE s
 
-exact-configured : (r : Radio) (s : State) → Told (cond (not (runs? r)) PLACE TAKEN) s (onConfigured r s)
+exact-configured : (r : Radio) (s : State) → Told (cond (not (isConfiguring r)) PLACE TAKEN) s (onConfigured r s)
 exact-configured free s = by-refusing PLACE s
 exact-configured (listening t) s = by-refusing PLACE s
 exact-configured (onAir t) s = by-refusing PLACE s
@@ -160,17 +160,17 @@ exact-packet false p s = by-refusing PLACE s
 
 -- the causes but ROOM
 abbrev causeOf : Event → State → ℕ
-causeOf e s = cond (byte? e && stalled (s .air)) STALL (cond (not (fits e (s .air .radio) (s .inbox .receiving))) PLACE TAKEN)
+causeOf e s = cond (byte? e && reconfiguring (s .air .pending) (s .air .radio)) STALL (cond (not (fits e (s .air .radio) (s .inbox .receiving))) PLACE TAKEN)
 
 exact-event : (b : Board) (e : Event) (s : State) → Told (causeOf e s) s (onEvent b e s)
-exact-event b (byte n) s = exact-byte (stalled (s .air)) b n s
+exact-event b (byte n) s = rw (same-stalled (s .air .pending) (s .air .radio)) (exact-byte (reconfiguring (s .air .pending) (s .air .radio)) b n s)
 exact-event b tick s = by-taking s _ (takes-tick s)
 exact-event b clear s = exact-clear (s .air .radio) s
 exact-event b busy s = exact-busy (s .air .radio) s
 exact-event b (sent airtime) s = exact-sent airtime (s .air .radio) s
 exact-event b configured s = exact-configured (s .air .radio) s
 exact-event b fault s = by-taking s _ (takes-fault (s .air .radio) s)
-exact-event b (packet p) s = exact-packet (s .inbox .receiving && free? (s .air .radio)) p s
+exact-event b (packet p) s = rw (same-free (s .air .radio)) (exact-packet (s .inbox .receiving && isFree (s .air .radio)) p s)
 exact-event b request s = by-taking s _ (takes-request (s .inbox .ring) s)
 exact-event b disconnect s = by-taking s _ (takes-disconnect (s .link .session) s)
 
@@ -196,4 +196,4 @@ on-damage b (r ∷ rs) s nonempty d = ap (λ x. onReceived b x (withLink (link t
 -- 00, demand 2, damaged frames, for every state
 pub demand2 : (b : Board) (s : State) (room : ℕ) → Demand2 b s room
 unfolding step
-demand2 b s room enough goes nonempty d = rw (enough, goes) (on-damage b (s .link .run) s nonempty d)
+demand2 b s room enough goes nonempty d = rw (enough, same-stalled (s .air .pending) (s .air .radio), goes) (on-damage b (s .link .run) s nonempty d)

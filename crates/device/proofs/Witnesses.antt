@@ -138,7 +138,7 @@ configures = (refl, refl, refl)
 pub asks :
     Command (ready ++ (sends RX-START 10 [] ++ tx 20)) RX-STOP 11 [] (ok 11 ∷ []) nothing
     × Command [] PING 0x7F7F [] (ok 0x7F7F ∷ []) nothing
-    × Gives (bytesIn (0x03 ∷ 0x01 ∷ []) ++ (lent tick ∷ bytesIn (0x01 ∷ 0x03 ∷ 0x9D ∷ 0xC8 ∷ []))) (byte 0) (ok 1 ∷ []) nothing
+    × Gives (sends PING 1 [] ++ (bytesIn (0x03 ∷ 0x01 ∷ []) ++ (lent tick ∷ bytesIn (0x01 ∷ 0x03 ∷ 0x9D ∷ 0xC8 ∷ [])))) (byte 0) (ok 1 ∷ []) nothing
     × Command [] GET-INFO 2 [] (message 2 (A.Info (infoOf sx1262)) (uidsOf sx1262) ∷ []) nothing
     × Gives (bytesIn (0x05 ∷ [])) (byte 0) (errDue EFRAME 0 ∷ []) nothing
     × Gives ready disconnect [] standby
@@ -160,12 +160,13 @@ delivered = (refl, refl)
 
 -- ---- the causes of a refusal
 
--- after a fault while configuring bytes are taken again; a packet does not fit while a TX is on air
+-- after a fault while configuring bytes are taken again; a packet does not fit while a TX is on air, and still fits after a damaged frame
 pub refuses :
     Numbers (sends SET-CONFIG 3 (lora 7 14) ++ (lent fault ∷ [])) (byte 3) 0
     × Numbers (ready ++ (sends RX-START 10 [] ++ tx 20)) (packet quiet) 3
+    × Numbers (hears [] ++ bytesIn (0x05 ∷ 0x00 ∷ [])) (packet quiet) 0
 unfolding computes
-refuses = ((refl, refl), (refl, refl))
+refuses = ((refl, refl), (refl, refl), (refl, refl))
 
 -- ---- each TX_DONE, and each place
 

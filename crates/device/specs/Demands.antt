@@ -26,7 +26,7 @@ use Rattle.verdict.specs.declared.Kinds.the-variants as K
 use Rattle.reader.specs.Reading.{receiveAnswer}
 use Rattle.writer.specs.Writing.{writeAnswer, writeLeft}
 use Rattle.board.specs.Board.{Board}
-use Rattle.device.specs.State.{State, link, withLink, powerUp, held, tagsOf, stalled}
+use Rattle.device.specs.State.{State, link, withLink, powerUp, held, tagsOf}
 use Rattle.device.specs.State.{Event, byte, tick, clear, busy, sent, configured, fault, packet, request, disconnect, Input, nothing}
 use Rattle.device.specs.Messages.{Message, payload, wire, wires, EFRAME, Frame, frame, seen}
 use Rattle.device.specs.Frames.{Received, damaged, command}
@@ -34,14 +34,14 @@ use Rattle.device.specs.Reading.{frames, brings}
 use Rattle.device.specs.Events.{Out, taken, refused, step, Reply, reply}
 use Rattle.device.specs.Tally.{Place, reported, dropped, withRadio, waits, Entry, entry, open?, Tally, noTally, ifTaken, tallied, wrote, dones, reportedTags, newlyReported}
 use Rattle.device.specs.Observer.{Observer, knowsNothing, observed}
-use Rattle.device.specs.Due.{cause, numberDue, errDue, messagesDue, orderDue}
+use Rattle.device.specs.Due.{reconfiguring, cause, numberDue, errDue, messagesDue, orderDue}
 use Rattle.device.specs.Ranges.{InputIn}
 
 -- ---- demand 1, for every state
 
 -- the cause of a refusal, by the state
 abbrev pub causeIn : State → Input → ℕ
-causeIn s i = cause (i .room) (stalled (s .air)) (s .air .radio) (s .inbox .receiving) (i .event)
+causeIn s i = cause (i .room) (reconfiguring (s .air .pending) (s .air .radio)) (s .air .radio) (s .inbox .receiving) (i .event)
 
 -- Of an answer x, of any kind, with the cause n: its number is the cause's, and a refusal writes nothing and changes nothing. `number` reads the number off an
 -- answer, and `refuse` is the answer that does nothing else.
@@ -58,7 +58,7 @@ Demand1 b s i = Exact (λ (o : Out). o .number) (λ k. refused k s) (causeIn s i
 -- demand2: a run that fails step 1 draws ERR(EFRAME) with tag 0, and nothing changes but session, liveness count and run
 abbrev pub Demand2 : Board → State → ℕ → Type 0
 Demand2 b s room =
-    ltb room 283 ≡ false → stalled (s .air) ≡ false → 0 < length (s .link .run) → brings (s .link .run) ≡ damaged
+    ltb room 283 ≡ false → reconfiguring (s .air .pending) (s .air .radio) ≡ false → 0 < length (s .link .run) → brings (s .link .run) ≡ damaged
     → step b s (record { room = room; event = byte 0 }) ≡ taken (withLink (link true 0 []) s) (errDue EFRAME 0 ∷ []) nothing
 
 -- ---- a device as the demands on histories see it

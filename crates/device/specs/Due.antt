@@ -3,7 +3,7 @@
 -- device to it.
 -- Assumes nothing.
 use Prim.Native.Nat.{ℕ, zero, suc, _+_, min}
-use mathlib.Core.Bool.{Bool, true, false, cond, not, _&&_}
+use mathlib.Core.Bool.{Bool, true, false, cond, not, _&&_, _||_}
 use mathlib.Core.List.{List, [], _∷_, _++_}
 use mathlib.Core.Option.{Option, none, some}
 use lib.Dec.{leb, ltb, eqb}
@@ -21,9 +21,9 @@ use Rattle.answer.specs.declared.Answer.the-variants as A
 use Rattle.board.specs.Board.{Board, infoOf, uidsOf}
 use Rattle.board.specs.Params.{paramsGood}
 use Rattle.board.specs.Ldro.{ldro}
-use Rattle.device.specs.State.{Config, Setting, Tx, RadioOf, Radio, free, listening, onAir, orphan, configuring, Packet, Air, free?, runs?, stalled}
+use Rattle.device.specs.State.{Config, Setting, Tx, RadioOf, Radio, free, listening, onAir, orphan, configuring, Packet, Air}
 use Rattle.device.specs.State.{Event, byte, tick, clear, busy, sent, configured, fault, packet, request, disconnect, Order, nothing, standby, configure, transmit, receive}
-use Rattle.device.specs.Messages.{Message, message, yes, EPARAM, ELENGTH, ENOTCONFIGURED, EMODULATION, EUNKNOWN-CMD, EBUSY, ERADIO, EFRAME}
+use Rattle.device.specs.Messages.{Message, message, EPARAM, ELENGTH, ENOTCONFIGURED, EMODULATION, EUNKNOWN-CMD, EBUSY, ERADIO, EFRAME}
 use Rattle.device.specs.Frames.{Received, damaged, command}
 use Rattle.device.specs.Reading.{brings}
 use Rattle.device.specs.Tally.{Tally, ifTaken}
@@ -31,30 +31,50 @@ use Rattle.device.specs.Observer.{Observer, txIn, settingIn, tickEnds}
 
 -- ---- the number
 
-abbrev pub listens? : {C : Type 0} → RadioOf C → Bool
-listens? free = false
-listens? (listening t) = true
-listens? (onAir t) = false
-listens? orphan = false
-listens? (configuring c) = false
+-- what the radio does
+abbrev pub isFree : {C : Type 0} → RadioOf C → Bool
+isFree free = true
+isFree (listening t) = false
+isFree (onAir t) = false
+isFree orphan = false
+isFree (configuring c) = false
 
-abbrev pub onAir? : {C : Type 0} → RadioOf C → Bool
-onAir? free = false
-onAir? (listening t) = false
-onAir? (onAir t) = true
-onAir? orphan = true
-onAir? (configuring c) = false
+abbrev pub isListening : {C : Type 0} → RadioOf C → Bool
+isListening free = false
+isListening (listening t) = true
+isListening (onAir t) = false
+isListening orphan = false
+isListening (configuring c) = false
+
+abbrev pub isOnAir : {C : Type 0} → RadioOf C → Bool
+isOnAir free = false
+isOnAir (listening t) = false
+isOnAir (onAir t) = true
+isOnAir orphan = true
+isOnAir (configuring c) = false
+
+abbrev pub isConfiguring : {C : Type 0} → RadioOf C → Bool
+isConfiguring free = false
+isConfiguring (listening t) = false
+isConfiguring (onAir t) = false
+isConfiguring orphan = false
+isConfiguring (configuring c) = true
+
+-- a SET_CONFIG waits or runs
+abbrev pub reconfiguring : Option Setting → Radio → Bool
+reconfiguring none r = isConfiguring r
+reconfiguring (some c) r = true
 
 -- Whether a radio outcome fits, by the radio and whether receiving is on: 01 "What each event does". The other events are none.
 abbrev pub fits : {C : Type 0} → Event → RadioOf C → Bool → Bool
 fits (byte n) r on = true
 fits tick r on = true
-fits clear r on = listens? r
-fits busy r on = listens? r
-fits (sent airtime) r on = onAir? r
-fits configured r on = runs? r
+fits clear r on = isListening r
+fits busy r on = isListening r
+fits (sent airtime) r on = isOnAir r
+fits configured r on = isConfiguring r
 fits fault r on = true
-fits (packet p) r on = on && free? r
+fits (packet p) r on = on && isFree r
 fits request r on = true
 fits disconnect r on = true
 
@@ -79,7 +99,7 @@ cause room wait r on e =
     TAKEN))
 
 abbrev pub numberDue : ℕ → Event → Observer → ℕ
-numberDue room e k = cause room (stalled (k .air)) (k .air .radio) (k .inbox .receiving) e
+numberDue room e k = cause room (reconfiguring (k .air .pending) (k .air .radio)) (k .air .radio) (k .inbox .receiving) e
 
 -- ---- the error that a command draws, by its type: P 6.1 to 6.6 and 10; which comes first is 01's steps 2 to 7
 
@@ -237,7 +257,7 @@ endReports result airtime a = radioReport result airtime (a .radio) ++ cancelsAf
 
 -- a SET_CONFIG that is taken cancels all that are open, unless one is on air
 abbrev pub setReports : Air → List Message
-setReports a = cond (onAir? (a .radio)) [] (radioReport 2 0 (a .radio) ++ cancels (a .waiting))
+setReports a = cond (isOnAir (a .radio)) [] (radioReport 2 0 (a .radio) ++ cancels (a .waiting))
 
 abbrev pub broughtReports : Brought → Air → List Message
 broughtReports no-frame a = []
@@ -252,7 +272,7 @@ reportsDue b clear t k = []
 reportsDue b busy t k = endReports 1 0 (k .air)
 reportsDue b (sent airtime) t k = endReports 0 airtime (k .air)
 reportsDue b configured t k = []
-reportsDue b fault t k = cond (runs? (k .air .radio)) [] (endReports 2 0 (k .air))
+reportsDue b fault t k = cond (isConfiguring (k .air .radio)) [] (endReports 2 0 (k .air))
 reportsDue b (packet p) t k = []
 reportsDue b request t k = []
 reportsDue b disconnect t k = []
@@ -269,7 +289,7 @@ oldest (p ∷ ps) lost =
       snr = p .snr;
       «freq_err» = p .freq-err;
       «timestamp_us» = p .time;
-      «crc_valid» = yes (p .crc-valid);
+      «crc_valid» = cond (p .crc-valid) 1 0;
       «packets_dropped» = min lost 65535;
       origin = 0;
     }))
@@ -348,18 +368,14 @@ eventOrder b clear t k = nothing
 eventOrder b busy t k = endOrder (k .air .pending) (k .air .waiting) k
 eventOrder b (sent airtime) t k = endOrder (k .air .pending) (k .air .waiting) k
 eventOrder b configured t k = cond (t .session) nothing standby
-eventOrder b fault t k = cond (runs? (k .air .radio)) standby (endOrder (k .air .pending) (k .air .waiting) k)
+eventOrder b fault t k = cond (isConfiguring (k .air .radio)) standby (endOrder (k .air .pending) (k .air .waiting) k)
 eventOrder b (packet p) t k = nothing
 eventOrder b request t k = nothing
 eventOrder b disconnect t k = cond (t .session) standby nothing
 
 -- the radio is on air, or is being configured; and the events that end that
 abbrev pub atWork : Radio → Bool
-atWork free = false
-atWork (listening t) = false
-atWork (onAir t) = true
-atWork orphan = true
-atWork (configuring c) = true
+atWork r = isOnAir r || isConfiguring r
 
 abbrev pub endsWork : Event → Bool
 endsWork (byte n) = false

@@ -4,8 +4,7 @@
 -- Assumes nothing.
 use mathlib.Core.Path.{_≡_, refl, sym, ap, ap₂, subst, _∙_}
 use mathlib.Core.Bool.{Bool, true, false, cond, not, _&&_}
-use mathlib.Core.List.{List, [], _∷_, _++_, map}
-use mathlib.Core.Option.{Option}
+use mathlib.Core.List.{List, [], _∷_, map}
 use Prim.Native.Nat.{ℕ, _+_}
 use native.Mathlib.Omega.{arith}
 use lib.Dec.{leb, ltb}
@@ -15,7 +14,7 @@ use Rattle.buffer.specs.Lay.{lay}
 use Rattle.scalar.specs.Bytes.{Each}
 use Rattle.frame.proofs.Laws.{take-laid}
 use Rattle.board.specs.Board.{sx1262}
-use Rattle.device.specs.State.{Config, Setting, Tx, State, Packet, Event, byte, tick, clear, busy, sent, configured, fault, packet, request, disconnect}
+use Rattle.device.specs.State.{State, Packet, Event, byte, tick, clear, busy, sent, configured, fault, packet, request, disconnect}
 use Rattle.device.specs.State as S
 use Rattle.device.specs.Messages.{wires}
 use Rattle.device.specs.Events.{Out, Reply, reply, step, onEvent, unlessRoom}

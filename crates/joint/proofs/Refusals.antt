@@ -20,15 +20,15 @@ use Rattle.device.specs.State.{Packet, Event, byte, tick, clear, busy, sent, co
 use Rattle.device.specs.Messages.{seen, wire, err, EFRAME}
 use Rattle.device.specs.Frames.{Received, damaged, command, received, objects}
 use Rattle.device.specs.Reading.{brings}
-use Rattle.device.proofs.Laws.{run-brings}
-use Rattle.device.specs.Due.{listens?, onAir?}
+use Rattle.device.proofs.Laws.{run-brings, same-free}
+use Rattle.device.specs.Due.{isFree, isListening, isOnAir, isConfiguring}
 use Rattle.device.specs.Demands.{Exact}
 use Rattle.device.proofs.Refusals.{exact-taken, exact-refused}
 use Rattle.control.specs.declared.Radio.{Radio}
 use Rattle.control.specs.declared.Radio.the-variants.{Free, Listening, OnAir, Orphan, Configuring}
 use Rattle.control.specs.declared.Device.{Device}
 use Rattle.control.specs.declared.Order.the-variants.{Nothing}
-use Rattle.control.specs.Control.{link, withLink, radioOf, deaf, withInbox, free?, runs?, stalled, unconfigured, Done, taken, refused, within}
+use Rattle.control.specs.Control.{link, withLink, radioOf, deaf, withInbox, free?, stalled, unconfigured, Done, taken, refused, within}
 use Rattle.wire.specs.Wire.{bytesOf, sends}
 use Rattle.slot.specs.Slots.{setting, kept}
 use Rattle.queue.specs.Queue.{start, begin, next, afterTx}
@@ -157,28 +157,28 @@ takes-byte (suc n) run m d = takes-join (suc n) run m d
 
 -- ---- the outcomes
 
-exact-clear : (r : Radio) (d : Device) → Told d (cond (not (listens? (radioOf r))) PLACE TAKEN) (onClear r d)
+exact-clear : (r : Radio) (d : Device) → Told d (cond (not (isListening (radioOf r))) PLACE TAKEN) (onClear r d)
 exact-clear Free d = refuses d PLACE
 exact-clear (Listening t) d = takes d _ refl
 exact-clear (OnAir t) d = refuses d PLACE
 exact-clear Orphan d = refuses d PLACE
 exact-clear Configuring d = refuses d PLACE
 
-exact-busy : (r : Radio) (m : List ℕ) (d : Device) → Told d (cond (not (listens? (radioOf r))) PLACE TAKEN) (onBusy r m d)
+exact-busy : (r : Radio) (m : List ℕ) (d : Device) → Told d (cond (not (isListening (radioOf r))) PLACE TAKEN) (onBusy r m d)
 exact-busy Free m d = refuses d PLACE
 exact-busy (Listening t) m d = takes d _ (takes-after m d)
 exact-busy (OnAir t) m d = refuses d PLACE
 exact-busy Orphan m d = refuses d PLACE
 exact-busy Configuring m d = refuses d PLACE
 
-exact-sent : (airtime : ℕ) (r : Radio) (m : List ℕ) (d : Device) → Told d (cond (not (onAir? (radioOf r))) PLACE TAKEN) (onSent airtime r m d)
+exact-sent : (airtime : ℕ) (r : Radio) (m : List ℕ) (d : Device) → Told d (cond (not (isOnAir (radioOf r))) PLACE TAKEN) (onSent airtime r m d)
 exact-sent airtime Free m d = refuses d PLACE
 exact-sent airtime (Listening t) m d = refuses d PLACE
 exact-sent airtime (OnAir t) m d = takes d _ (takes-after m d)
 exact-sent airtime Orphan m d = takes d _ (takes-after m d)
 exact-sent airtime Configuring m d = refuses d PLACE
 
-exact-configured : (r : Radio) (m : List ℕ) (d : Device) → Told d (cond (not (runs? r)) PLACE TAKEN) (onConfigured r m d)
+exact-configured : (r : Radio) (m : List ℕ) (d : Device) → Told d (cond (not (isConfiguring (radioOf r))) PLACE TAKEN) (onConfigured r m d)
 exact-configured Free m d = refuses d PLACE
 exact-configured (Listening t) m d = refuses d PLACE
 exact-configured (OnAir t) m d = refuses d PLACE
@@ -252,7 +252,8 @@ module _ (y : Machine) (o : List ℕ) where
   exact (sent airtime) = speaking _ _ (exact-room short d _ _ (exact-sent airtime (d .air .radio) (y .commands) d))
   exact configured = speaking _ _ (exact-room short d _ _ (exact-configured (d .air .radio) (y .commands) d))
   exact fault = speaking _ _ (exact-room short d TAKEN _ (takes d _ (takes-fault (d .air .radio) (y .commands) d)))
-  exact (packet p) = exact-packet p short (d .inbox .receiving && free? (d .air .radio))
+  exact (packet p) =
+      rw (same-free (radioOf (d .air .radio))) (exact-packet p short (d .inbox .receiving && isFree (radioOf (d .air .radio))))
   exact request = exact-request short
   exact disconnect = keeping _ _ (exact-room short d TAKEN _ (takes d _ (takes-disconnect (d .link .session) d)))
 
