@@ -10,7 +10,8 @@ ghost use Rattle.writer.specs.Writing.{writeAnswer, writeLeft};
 ghost use Rattle.host.specs.Written.{encodeWritten, decodeWritten, writeNumber, writeWritten};
 ghost use Rattle.host.specs.Reports.{nameIn, messageReport, rxReport, txDoneReport};
 
-mod event;
+// Public for crate exported, which says of each call that C can make what its types say.
+pub mod event;
 
 use host::MessageReport;
 use host::RxReport;

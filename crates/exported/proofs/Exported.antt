@@ -25,16 +25,18 @@ use Rattle.inbox.specs.Packets.{packetsSize}
 use Rattle.words.specs.Words.{radioTag, controlWords, answerWords}
 use Rattle.words.specs.Ranges.{DeviceIn}
 use Rattle.words.proofs.Laws.{round-trip, order-back}
-use Rattle.machine.specs.Machine.{Machine, machine, Call, Ran, runs}
+use Rattle.machine.specs.Machine.{Machine, machine, Call, runs}
 use Rattle.dongle.specs.Calls.{Lent, lent, first, machineIn, Left, left, inWords, called}
 use Rattle.joint.specs.Seen.{replyOf}
 use Rattle.joint.specs.Joined.{Memories, started, inputOf, CallIn, replies}
+use Rattle.joint.specs.Named.{BytesStay, Uninterrupted}
 use Rattle.joint.proofs.Stands.{RunAs, as-run, as-long, RadioAs, as-free, as-listening, as-onAir, as-orphan, as-configuring}
 use Rattle.joint.proofs.Outcomes.{length-tags}
 use Rattle.joint.proofs.Joint.{Meets, same-reply, meets-next, meets-first}
 use Rattle.joint.proofs.Demands.{in-step}
 use Rattle.joint.proofs.Refusals as R
-use Rattle.exported.specs.Exported.{replyFrom, exported, answers, Joined, refusalWords, settled, Demand1, Unchanged, Demand2}
+use Rattle.joint.proofs.Named.{InCode, stay-in-code, alone-in-code}
+use Rattle.exported.specs.Exported.{replyFrom, exported, answers, Joined, refusalWords, settled, Demand1, Unchanged, Demand2, exportedOrders}
 
 -- ---- a state that can be reached has numbers of its types
 
@@ -195,3 +197,24 @@ unchanged cs l c k e =
 pub demand2 : (y : Lent) (o : List ℕ) → Demand2 y o
 unfolding called
 demand2 y o room goes some bad = ap inWords (R.demand2 (machineIn y) o room goes some bad)
+
+-- ---- the bytes that an order names
+
+-- the dongle goes in step with the code
+in-code : InCode exportedOrders memories
+unfolding called answerWords
+in-code =
+    record {
+      machine = machineIn;
+      powerUp = back (started memories) (numbers-small (meets-first memories));
+      next = λ y s h c i. back (runs (machineIn y) c .next) (numbers-small (meets-next h c i));
+      number = λ y c. refl;
+      order = λ y c. order-back (runs (machineIn y) c .answer);
+      commands = λ y. refl;
+    }
+
+pub bytes-stay : (cs : List Call) → Each CallIn cs → BytesStay exportedOrders cs
+bytes-stay cs l = stay-in-code exportedOrders memories in-code cs l
+
+pub uninterrupted : (cs : List Call) → Each CallIn cs → Uninterrupted exportedOrders cs
+uninterrupted cs l = alone-in-code exportedOrders memories in-code cs l

@@ -21,6 +21,7 @@ use Rattle.dongle.specs.Calls.{Lent, lent, first, machineIn, Left, left, call, 
 use Rattle.joint.specs.Seen.{orderIn}
 use Rattle.joint.specs.Joined.{inputOf, CallIn, replies}
 use Rattle.joint.specs.Demands.{causeIn, brought, complaint}
+use Rattle.joint.specs.Named.{Orders}
 
 -- the number, how many bytes were written, as many bytes from the output's start on, and the order
 unfoldable pub replyFrom : Left → Reply
@@ -85,3 +86,17 @@ Demand2 y o =
     let x = machineIn y in
     ltb (length o) 283 ≡ false → stalled (x .device .air) ≡ false → 0 < x .device .link .run → brought x ≡ damaged
     → called y (call (byte 0) o) ≡ inWords (complaint x o)
+
+-- ---- the bytes that an order names
+
+-- bytes-stay, uninterrupted: crate joint's statements, of the dongle as C calls it
+abbrev pub exportedOrders : Orders
+exportedOrders =
+    record {
+      State = Lent;
+      powerUp = first;
+      next = λ y c. called y c .next;
+      number = λ y c. getD (called y c .answer) 0 0;
+      order = λ y c. orderFrom (called y c .answer);
+      commands = λ y. y .commands;
+    }

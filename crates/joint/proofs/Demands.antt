@@ -26,7 +26,7 @@ use Rattle.joint.proofs.Outcomes.{tags-wait}
 use Rattle.joint.proofs.Refusals.{demand1}
 use Rattle.joint.proofs.Joint.{Meets, same-reply, meets-next, meets-first}
 
-same-held : {m : List ℕ} {r : Radio} {q : S.Radio} → RadioAs m r q → S.held (radioOf r) ≡ S.held q
+pub same-held : {m : List ℕ} {r : Radio} {q : S.Radio} → RadioAs m r q → S.held (radioOf r) ≡ S.held q
 same-held as-free = refl
 same-held as-listening = refl
 same-held as-onAir = refl

@@ -6,6 +6,7 @@ pub mod Link
 pub mod Commands
 pub mod Byte
 pub mod Joint
-pub mod Demands
 pub mod Refusals
-pub mod Sending
+pub mod Demands
+pub mod Named
+pub mod Values

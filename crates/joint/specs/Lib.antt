@@ -1,4 +1,5 @@
 pub mod Seen
 pub mod Joined
 pub mod Demands
-pub mod Sending
+pub mod Named
+pub mod Values
