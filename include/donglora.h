@@ -264,15 +264,17 @@ struct donglora_tx_done donglora_read_tx_done(const uint8_t *run, size_t run_len
  *   DONGLORA_CONFIGURE  set the radio up. commands[at] and on, len bytes, are the modulation (1 LoRa,
  *                       2 FSK) and its parameters as in SET_CONFIG; ldro is 1 where LoRa's low data
  *                       rate optimisation is to be on. Then call donglora_configured, or
- *                       donglora_fault if the radio refuses.
+ *                       donglora_fault if the radio refuses. The bytes stay where they are, as they
+ *                       are, until then.
  *   DONGLORA_TRANSMIT   send the packet, the len bytes from commands[at] on. Where listen is 1,
  *                       listen for a clear channel first, and call donglora_clear and then send, or
  *                       donglora_busy and don't. When it has been sent call donglora_sent, or
- *                       donglora_fault if that fails. The packet stays where it is until then.
+ *                       donglora_fault if that fails. The packet stays where it is, as it is, until
+ *                       then.
  *   DONGLORA_RECEIVE    receive without end. For each packet call donglora_packet.
- * An order replaces what the radio was doing, but for a packet on air: none comes before its end,
- * which is told by donglora_sent or donglora_fault even where the session of its host has ended
- * meanwhile. A radio that listened and is ordered elsewhere stops listening. donglora_fault may be
+ * An order replaces what the radio was doing, but for a packet on air and a configuration: none
+ * comes before its end, which is told by donglora_sent, donglora_configured or donglora_fault even
+ * where the session of its host has ended meanwhile. A radio that listened and is ordered elsewhere stops listening. donglora_fault may be
  * called at any time, also with a radio that does nothing.
  *
  * The control array, the memories, the output, the packet's bytes and the answer must not overlap,
