@@ -28,50 +28,71 @@ use Rattle.device.proofs.Computing.{computes}
 abbrev device : System
 device = defined sx1262
 
--- ---- the clauses of demand 3, of one history
-
--- `each`, at one event more: both are the tags ts
-abbrev Reports : List Input → Event → List ℕ → Type 0
-Reports is e ts =
-    (dones (frames (answer device (history device is) (lent e) .bytes)) ≡ ts)
-    × (newlyReported (history device is .tally .txs) (onward device (history device is) (lent e) .tally .txs) ≡ ts)
-
--- `places`: these are reported or dropped, and the device has these open
-abbrev Places : List Input → List Closed → List Entry → Type 0
-Places is before now =
-    (history device is .tally .txs ≡ map closed before ++ now)
-    × (withRadioOf device (history device is .device) ++ waitingOf device (history device is .device) ≡ now)
-
--- `few`
-abbrev Few : List Input → Type 0
-Few is = leb (length (withRadioOf device (history device is .device) ++ waitingOf device (history device is .device))) 16 ≡ true
+-- What is compared is one record for each history, so that the history is computed once.
 
 -- ---- demand 1 and what is written and ordered, at one event more
 
--- `demand1-seen`: the number, and the one that is due
-abbrev Numbers : List Input → Event → ℕ → Type 0
-Numbers is e n =
-    (answer device (history device is) (lent e) .number ≡ n)
-    × (numberDue 283 e (history device is .observer) ≡ n)
-
--- `contents`: the answer, and what is due
-record Seen : Type 0 where
+-- the answer, and what is due: `demand1-seen`, `contents`
+record Answered : Type 0 where
   answers : Reply
+  number : ℕ
   messages : List Message
   order : Order
 
-abbrev at : History device → Event → Seen
-at h e =
+abbrev answered : History device → Event → Answered
+answered h e =
+    let r = answer device h (lent e) in
     record {
-      answers = answer device h (lent e);
-      messages = messagesDue sx1262 0 e (h .tally) (h .observer);
-      order = orderDue sx1262 0 e (h .tally) (h .observer);
+      answers = r;
+      number = numberDue 283 e (h .observer);
+      messages = messagesDue sx1262 (r .number) e (h .tally) (h .observer);
+      order = orderDue sx1262 (r .number) e (h .tally) (h .observer);
     }
 
--- the bytes and their count are those of these messages, and this is the order; and both are due
+-- the number is n, the bytes and their count are those of these messages, and this is the order; and so is what is due
+abbrev Answers : List Input → Event → ℕ → List Message → Order → Type 0
+Answers is e n ms o =
+    answered (history device is) e
+    ≡ record { answers = record { number = n; count = length (wires ms); bytes = wires ms; order = o }; number = n; messages = ms; order = o }
+
+-- it is taken, or refused
 abbrev Gives : List Input → Event → List Message → Order → Type 0
-Gives is e ms o =
-    at (history device is) e ≡ record { answers = record { number = 0; count = length (wires ms); bytes = wires ms; order = o }; messages = ms; order = o }
+Gives is e ms o = Answers is e 0 ms o
+
+abbrev Refuses : List Input → Event → ℕ → Type 0
+Refuses is e n = Answers is e n [] nothing
+
+-- ---- the clauses of demand 3
+
+-- `each`, at one event more: both are the tags ts
+record Reported : Type 0 where
+  written : List ℕ
+  tallied : List ℕ
+
+abbrev reported : History device → Event → Reported
+reported h e =
+    record { written = dones (frames (answer device h (lent e) .bytes)); tallied = newlyReported (h .tally .txs) (onward device h (lent e) .tally .txs) }
+
+abbrev Reports : List Input → Event → List ℕ → Type 0
+Reports is e ts = reported (history device is) e ≡ record { written = ts; tallied = ts }
+
+-- `places`: these are reported or dropped, and the device has these open
+record Placed : Type 0 where
+  tallied : List Entry
+  device : List Entry
+
+abbrev opens : History device → List Entry
+opens h = withRadioOf device (h .device) ++ waitingOf device (h .device)
+
+abbrev placed : History device → Placed
+placed h = record { tallied = h .tally .txs; device = opens h }
+
+abbrev Places : List Input → List Closed → List Entry → Type 0
+Places is before now = placed (history device is) ≡ record { tallied = map closed before ++ now; device = now }
+
+-- `few`
+abbrev Few : List Input → Type 0
+Few is = leb (length (opens (history device is))) 16 ≡ true
 
 -- ---- scripts
 
@@ -162,11 +183,11 @@ delivered = (refl, refl)
 
 -- after a fault while configuring bytes are taken again; a packet does not fit while a TX is on air, and still fits after a damaged frame
 pub refuses :
-    Numbers (sends SET-CONFIG 3 (lora 7 14) ++ (lent fault ∷ [])) (byte 3) 0
-    × Numbers (ready ++ (sends RX-START 10 [] ++ tx 20)) (packet quiet) 3
-    × Numbers (hears [] ++ bytesIn (0x05 ∷ 0x00 ∷ [])) (packet quiet) 0
+    Gives (sends SET-CONFIG 3 (lora 7 14) ++ (lent fault ∷ [])) (byte 3) [] nothing
+    × Refuses (ready ++ (sends RX-START 10 [] ++ tx 20)) (packet quiet) 3
+    × Gives (hears [] ++ bytesIn (0x05 ∷ 0x00 ∷ [])) (packet quiet) [] nothing
 unfolding computes
-refuses = ((refl, refl), (refl, refl), (refl, refl))
+refuses = (refl, refl, refl)
 
 -- ---- each TX_DONE, and each place
 
@@ -176,7 +197,7 @@ pub reports :
     × Reports (ready ++ (tx 20 ++ (lent disconnect ∷ []))) (sent 33792) []
     × Reports two (sent 33792) (20 ∷ [])
 unfolding computes
-reports = ((refl, refl), (refl, refl), (refl, refl))
+reports = (refl, refl, refl)
 
 -- after a fault while a SET_CONFIG waits, and then 1000 ticks; after 1000 ticks while a TX is on air; with one tag three times
 abbrev faulted : List Input
@@ -187,7 +208,7 @@ pub places :
     × Places (ready ++ (tx 20 ++ replicate 1000 (lent tick))) (was-dropped 20 ∷ []) []
     × Places (ready ++ (tx 20 ++ (tx 20 ++ tx 20))) [] (entry 20 withRadio ∷ entry 20 waits ∷ entry 20 waits ∷ [])
 unfolding computes
-places = ((refl, refl), (refl, refl), (refl, refl))
+places = (refl, refl, refl)
 
 -- of 17 TX
 pub seventeen : Few (ready ++ txs 17)
