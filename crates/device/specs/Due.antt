@@ -1,6 +1,6 @@
 -- What is due at an event, by what the observer knows: the number, the messages and the order. 01 "Numbers that come back", "A run of bytes becomes a frame" and "What
--- each event does", told from outside. Of the device only the types are used here: each rule is said once more, with the papers' own numbers, and the demands hold the
--- device to it.
+-- each event does", told from outside. Of the device only the types and P's error codes are used here: each rule is said once more, with the papers' own numbers, and
+-- the demands hold the device to it.
 -- Assumes nothing.
 use Prim.Native.Nat.{ℕ, zero, suc, _+_, min}
 use mathlib.Core.Bool.{Bool, true, false, cond, not, _&&_, _||_}
@@ -123,7 +123,7 @@ configError b (m ∷ ps) =
     (valueError (leb fskSize (length ps) && eqb (length ps) (fskSize + get sync-word-len ps)) (paramsGood b (configOf (m ∷ ps))))
     (some EMODULATION))
 
--- TX: a packet of 1 to 255 bytes, flags of 0 or 1, and at most 16 are open; n are
+-- TX: a packet of 1 to 255 bytes, flags of 0 or 1, and not 16 open already; n are
 abbrev pub txError : ℕ → List ℕ → Option ℕ
 txError n [] = some ELENGTH
 txError n (f ∷ bs) =
