@@ -274,8 +274,8 @@ struct donglora_tx_done donglora_read_tx_done(const uint8_t *run, size_t run_len
  *   DONGLORA_RECEIVE    receive without end. For each packet call donglora_packet.
  * An order replaces what the radio was doing, but for a packet on air and a configuration: none
  * comes before its end, which is told by donglora_sent, donglora_configured or donglora_fault even
- * where the session of its host has ended meanwhile. A radio that listened and is ordered elsewhere stops listening. donglora_fault may be
- * called at any time, also with a radio that does nothing.
+ * where the session of its host has ended meanwhile. A radio that listened and is ordered elsewhere
+ * stops listening. donglora_fault may be called at any time, also with a radio that does nothing.
  *
  * The control array, the memories, the output, the packet's bytes and the answer must not overlap,
  * and no pointer but that to a packet of 0 bytes may be NULL. Whatever the control array and the

@@ -16,7 +16,9 @@ use Rattle.buffer.proofs.Deciding.{same, le-or-lt}
 use Rattle.scalar.specs.Bytes.{Each}
 use Rattle.board.specs.Board.{sx1262, among}
 use Rattle.board.specs.Ldro.{bandwidths, slow}
-use Rattle.board.specs.Params.{iqGood}
+use Rattle.modulation.specs.declared.Lora.{Lora}
+use Rattle.modulation.specs.declared.Fsk.{Fsk}
+use Rattle.board.specs.Params.{iqGood, loraGood, fskGood, loraTaken, fskTaken}
 
 -- ---- values without gaps
 
@@ -65,6 +67,15 @@ iq-none x = go (eqb x 1) refl
     go : (t : Bool) → eqb x 1 ≡ t → cond t false (eqb x 0) ≡ eqb x 0
     go true e = sym (ne-eqb x 0 (omega (arith, eqb-true x 1 e)))
     go false e = refl
+
+-- the parameters that 01's board takes, in 01's own numbers
+pub lora-taken : (m : Lora) → loraGood sx1262 m ≡ loraTaken m
+unfolding loraGood sx1262
+lora-taken m = rw (sf-among, bw-among, iq-none)
+
+pub fsk-taken : (m : Fsk) → fskGood sx1262 m ≡ fskTaken m
+unfolding fskGood sx1262
+fsk-taken m = refl
 
 -- ---- LDRO
 

@@ -3,7 +3,7 @@
 use Prim.Native.Nat.{ℕ}
 use mathlib.Core.Bool.{Bool, cond, _&&_}
 use lib.Dec.{leb, eqb}
-use lib.IntN.{ℤ}
+use lib.IntN.{ℤ, pos, negsuc}
 use lib.Signed.{leZ}
 use Rattle.modulation.specs.Fsk.{syncWordMax}
 use Rattle.modulation.specs.declared.Lora.{Lora}
@@ -41,3 +41,21 @@ fskGood b m = freqGood b (m .«freq_hz») && leb (m .«sync_word_len») syncWord
 unfoldable pub paramsGood : Board → Modulation → Bool
 paramsGood b (M.Lora m) = loraGood b m
 paramsGood b (M.Fsk m) = fskGood b m
+
+-- ---- 01's board, in 01's own numbers
+
+-- lora-taken: 150,000,000 to 960,000,000 Hz, -9 to 22 dBm, SF 5 to 12, bw 0 to 9, cr 0 to 3, header and crc 0 or 1, iq 0; negsuc 8 is -9
+abbrev pub loraTaken : Lora → Bool
+loraTaken m =
+    (leb 150000000 (m .«freq_hz») && leb (m .«freq_hz») 960000000)
+    && ((leZ (negsuc 8) (m .«tx_power_dbm») && leZ (m .«tx_power_dbm») (pos 22))
+    && ((leb 5 (m .sf) && leb (m .sf) 12)
+    && (leb (m .bw) 9
+    && (leb (m .cr) 3
+    && (leb (m .«header_mode») 1
+    && (leb (m .«payload_crc») 1
+    && eqb (m .«iq_invert») 0))))))
+
+-- fsk-taken: the frequency, and a sync word of 8 bytes at most
+abbrev pub fskTaken : Fsk → Bool
+fskTaken m = (leb 150000000 (m .«freq_hz») && leb (m .«freq_hz») 960000000) && leb (m .«sync_word_len») 8

@@ -6,7 +6,6 @@ use mathlib.Core.List.{List, [], _∷_, map}
 use Prim.Native.Nat.{ℕ, suc}
 use Rattle.scalar.specs.Bytes.{Each}
 use Rattle.board.specs.Board.{Board}
-use Rattle.device.specs.Messages.{Message}
 use Rattle.device.specs.Demands.{System, History, onward, after, history, Demand1Seen, Contents, Demand2Seen, Demand2Wire, Demand3, outcomes, InTime, DropCount}
 
 -- The device y goes in step with z: what y is given is given to z by g, and R joins their states. R may say more of the two states than is asked for here.
@@ -97,10 +96,11 @@ module _ {y z : System} {g : y .Given → z .Given} {R : y .State → z .State �
           alone = λ k q. let s = d .alone (rw e at k) (rw (p .event c, a .tally) at q) in (rw e (s .0), rw e (s .1));
         }
 
-    pub demand2-wire-carried : (c : y .Given) → y .GivenIn c → {ms : List Message} → Demand2Wire z (map g cs) (g c) ms → Demand2Wire y cs c ms
+    pub demand2-wire-carried : {b : Board} (c : y .Given) → y .GivenIn c → Demand2Wire b z (map g cs) (g c) → Demand2Wire b y cs c
     demand2-wire-carried c i d =
-        let e = answers (alike cs l) c i in
-        record { bytes = rw e (d .bytes); split = rw e (d .split); back = d .back }
+        let a = alike cs l in
+        let e = answers a c i in
+        record { split = rw (e, p .event c, a .tally, a .observer) (d .split); back = rw (e, p .event c, a .tally, a .observer) (d .back) }
 
     pub demand3-carried : Demand3 z (map g cs) → Demand3 y cs
     demand3-carried d =

@@ -16,13 +16,12 @@ use Rattle.scalar.specs.Bytes.{Each}
 use Rattle.board.specs.Board.{Board}
 use Rattle.device.specs.State.{Radio, free, listening, onAir, orphan, configuring, Event, Input, held, tagsOf, open#}
 use Rattle.device.specs.Messages.{Message, wires, seen}
-use Rattle.device.specs.Reading.{frames}
 use Rattle.device.specs.Events.{Out, step, reply}
 use Rattle.device.specs.Tally.{Entry, entry, waits, open?, Tally, tallied, dones, reportedTags, newlyReported}
 use Rattle.device.specs.Observer.{Observer, observed}
 use Rattle.device.specs.Due.{numberDue, messagesDue, orderDue}
 use Rattle.device.specs.Ranges.{InputIn, BoardIn}
-use Rattle.device.specs.Demands.{Demand1Seen, Contents, Demand2Seen, eframes, Demand2Wire, Demand3, InTime, DropCount, dropCounts, defined, History, onward, after, history, Closed, was-reported, was-dropped, closed, opens, outcomes, placeOf}
+use Rattle.device.specs.Demands.{Demand1Seen, messagesNext, Contents, Demand2Seen, eframes, Demand2Wire, Demand3, InTime, DropCount, dropCounts, defined, History, onward, after, history, Closed, was-reported, was-dropped, closed, opens, outcomes, placeOf}
 use Rattle.device.proofs.Laws.{atRadio, inQueue, reportedOf, dones-append}
 use Rattle.device.proofs.Wires.{AllSendable, sendable-append, wires-append, read-all}
 use Rattle.device.proofs.Back.{all-back}
@@ -143,9 +142,7 @@ module _ (b : Board) (board : BoardIn b) where
   -- ---- what is written and ordered
 
   -- the messages that are written are those that are due
-  says-due : (is : List Input) (l : Each InputIn is) (i : Input) (e : InputIn i)
-      → step b (history (defined b) is .device) i .written
-      ≡ messagesDue b (step b (history (defined b) is .device) i .number) (i .event) (history (defined b) is .tally) (history (defined b) is .observer)
+  says-due : (is : List Input) → Each InputIn is → (i : Input) → InputIn i → step b (history (defined b) is .device) i .written ≡ messagesNext b (defined b) is i
   says-due is l i e =
       let g = good is l in
       told g i e .written ∙ sym (ap₂ (messagesDue b (step b (history (defined b) is .device) i .number) (i .event)) (g .agrees) (g .knows))
@@ -159,11 +156,13 @@ module _ (b : Board) (board : BoardIn b) where
         order = told g i e .order ∙ sym (ap₂ (orderDue b (step b (history (defined b) is .device) i .number) (i .event)) (g .agrees) (g .knows));
       }
 
-  -- the frames on the wire are those of the messages that are due
-  frames-due : (is : List Input) (l : Each InputIn is) (i : Input) (e : InputIn i)
-      → let s = history (defined b) is .device in
-      frames (wires (step b s i .written)) ≡ map seen (messagesDue b (step b s i .number) (i .event) (history (defined b) is .tally) (history (defined b) is .observer))
-  frames-due is l i e = read-all _ (ranged (good is l) i e .sendable) ∙ ap (map seen) (says-due is l i e)
+  -- ---- demand 2, the bytes
+
+  pub demand2-wire : (is : List Input) → Each InputIn is → (i : Input) → InputIn i → Demand2Wire b (defined b) is i
+  demand2-wire is l i e =
+      let ms = step b (history (defined b) is .device) i .written in
+      let s = ranged (good is l) i e .sendable in
+      record { split = read-all ms s ∙ ap (map seen) (says-due is l i e); back = rw (← says-due is l i e) (all-back ms s) }
 
   -- ---- demand 2, damaged frames, by what was seen
 
@@ -174,19 +173,11 @@ module _ (b : Board) (board : BoardIn b) where
       let n = step b (h .device) i .number in
       let c = contents is l i e in
       record {
-        tells = ap eframes (frames-due is l i e) ∙ eframes-due b (h .tally) (h .observer) n (i .event);
+        tells = ap eframes (demand2-wire is l i e .split) ∙ eframes-due b (h .tally) (h .observer) n (i .event);
         alone = λ k d.
             let m = damage-due b (h .tally) (h .observer) (i .event) d in
             (c .bytes ∙ rw (k, m .0) (append-nil _), c .order ∙ rw k (m .1));
       }
-
-  -- ---- demand 2, the bytes
-
-  pub demand2-wire : (is : List Input) → Each InputIn is → (i : Input) → InputIn i → Demand2Wire (defined b) is i (step b (history (defined b) is .device) i .written)
-  demand2-wire is l i e =
-      let ms = step b (history (defined b) is .device) i .written in
-      let s = ranged (good is l) i e .sendable in
-      record { bytes = refl; split = read-all ms s; back = all-back ms s }
 
   -- ---- demand 3
 
@@ -303,4 +294,4 @@ module _ (b : Board) (board : BoardIn b) where
   pub drop-count : (is : List Input) → Each InputIn is → DropCount (defined b) is
   drop-count is l i e =
       let h = history (defined b) is in
-      ap dropCounts (frames-due is l i e) ∙ drops-due b (h .tally) (h .observer) (step b (h .device) i .number) (i .event)
+      ap dropCounts (demand2-wire is l i e .split) ∙ drops-due b (h .tally) (h .observer) (step b (h .device) i .number) (i .event)

@@ -4,7 +4,7 @@
 -- Assumes nothing.
 use Prim.Native.Nat.{ℕ, zero, suc, _+_, _≤_, _<_, min}
 use mathlib.Core.Path.{_≡_}
-use mathlib.Core.Bool.{Bool, true, false, cond, not, _&&_}
+use mathlib.Core.Bool.{Bool, true, false, cond, _&&_}
 use mathlib.Core.List.{List, [], _∷_, _++_, map}
 use lib.Dec.{ltb, eqb}
 use lib.ListN.{length, take, getD}
@@ -27,7 +27,7 @@ use Rattle.reader.specs.Reading.{receiveAnswer}
 use Rattle.writer.specs.Writing.{writeAnswer, writeLeft}
 use Rattle.board.specs.Board.{Board}
 use Rattle.device.specs.State.{State, link, withLink, powerUp, held, tagsOf}
-use Rattle.device.specs.State.{Event, byte, tick, clear, busy, sent, configured, fault, packet, request, disconnect, Input, nothing}
+use Rattle.device.specs.State.{Event, byte, tick, clear, busy, sent, configured, fault, packet, request, disconnect, Input, Order, nothing}
 use Rattle.device.specs.Messages.{Message, payload, wire, wires, EFRAME, Frame, frame, seen}
 use Rattle.device.specs.Frames.{Received, damaged, command}
 use Rattle.device.specs.Reading.{frames, brings}
@@ -137,13 +137,18 @@ pub record Demand1Seen (y : System) (is : List (y .Given)) (i : y .Given) : Type
 
 -- ---- what is written and ordered
 
+-- the messages and the order that are due at one event more, by what was seen up to it and by its number
+abbrev pub messagesNext : Board → (y : System) → List (y .Given) → y .Given → List Message
+messagesNext b y is i = messagesDue b (answer y (history y is) i .number) (y .event i) (history y is .tally) (history y is .observer)
+
+abbrev pub orderNext : Board → (y : System) → List (y .Given) → y .Given → Order
+orderNext b y is i = orderDue b (answer y (history y is) i .number) (y .event i) (history y is .tally) (history y is .observer)
+
 -- contents: the bytes of one event more are the frames of the messages that are due, and the order is the one that is due; as many bytes are written as are counted
 pub record Contents (b : Board) (y : System) (is : List (y .Given)) (i : y .Given) : Type 0 where
   pub count : answer y (history y is) i .count ≡ length (answer y (history y is) i .bytes)
-  pub bytes : answer y (history y is) i .bytes
-      ≡ wires (messagesDue b (answer y (history y is) i .number) (y .event i) (history y is .tally) (history y is .observer))
-  pub order : answer y (history y is) i .order
-      ≡ orderDue b (answer y (history y is) i .number) (y .event i) (history y is .tally) (history y is .observer)
+  pub bytes : answer y (history y is) i .bytes ≡ wires (messagesNext b y is i)
+  pub order : answer y (history y is) i .order ≡ orderNext b y is i
 
 -- ---- demand 2, damaged frames, by what was seen
 
@@ -193,12 +198,10 @@ pub record Back (m : Message) : Type 0 where
   pub same : (name : Name) → Names (m .answer) name → readAnswer (answerKind (m .answer)) name (payload m) ≡ D.Answer (m .answer)
   pub bytes : (name : Name) → Names (m .answer) name → answerTail (answerKind (m .answer)) name (payload m) ≡ m .bytes
 
--- demand2-wire: one event more writes the messages ms. Splitting its bytes at their zeros and opening each run gives these messages, and each is read as the same
--- message. Of the defined device, ms are those that `step` says.
-pub record Demand2Wire (y : System) (is : List (y .Given)) (i : y .Given) (ms : List Message) : Type 0 where
-  pub bytes : answer y (history y is) i .bytes ≡ wires ms
-  pub split : frames (answer y (history y is) i .bytes) ≡ map seen ms
-  pub back : Each Back ms
+-- demand2-wire: splitting the bytes of one event more at their zeros and opening each run gives the messages that are due, and each is read as the same message
+pub record Demand2Wire (b : Board) (y : System) (is : List (y .Given)) (i : y .Given) : Type 0 where
+  pub split : frames (answer y (history y is) i .bytes) ≡ map seen (messagesNext b y is i)
+  pub back : Each Back (messagesNext b y is i)
 
 -- ---- demand 3
 

@@ -35,8 +35,9 @@ use Rattle.joint.proofs.Outcomes.{length-tags}
 use Rattle.joint.proofs.Joint.{Meets, same-reply, meets-next, meets-first}
 use Rattle.joint.proofs.Demands.{in-step}
 use Rattle.joint.proofs.Refusals as R
+use Rattle.joint.proofs.Output as Output
 use Rattle.joint.proofs.Named.{InCode, stay-in-code, alone-in-code}
-use Rattle.exported.specs.Exported.{replyFrom, exported, answers, Joined, refusalWords, settled, Demand1, Unchanged, Demand2, exportedOrders}
+use Rattle.exported.specs.Exported.{replyFrom, exported, answers, Joined, refusalWords, settled, Demand1, Unchanged, Demand2, RestStays, exportedOrders}
 
 -- ---- a state that can be reached has numbers of its types
 
@@ -167,7 +168,7 @@ module _ (cs : List Call) (l : Each CallIn cs) where
   pub demand2-seen : (c : Call) → CallIn c → Demand2Seen exported cs c
   demand2-seen c i = demand2-seen-carried step-by-step cs l c i (H.demand2-seen sx1262 sx1262-in (map inputOf cs) given (inputOf c) i)
 
-  pub demand2-wire : (c : Call) → CallIn c → Demand2Wire exported cs c (step sx1262 (history (defined sx1262) (map inputOf cs) .device) (inputOf c) .written)
+  pub demand2-wire : (c : Call) → CallIn c → Demand2Wire sx1262 exported cs c
   demand2-wire c i = demand2-wire-carried step-by-step cs l c i (H.demand2-wire sx1262 sx1262-in (map inputOf cs) given (inputOf c) i)
 
   pub demand3 : Demand3 exported cs
@@ -197,6 +198,12 @@ unchanged cs l c k e =
 pub demand2 : (y : Lent) (o : List ℕ) → Demand2 y o
 unfolding called
 demand2 y o room goes some bad = ap inWords (R.demand2 (machineIn y) o room goes some bad)
+
+-- ---- the output
+
+pub rest-stays : (y : Lent) (c : Call) → RestStays y c
+unfolding called answerWords
+rest-stays y c = Output.rest-stays (machineIn y) c
 
 -- ---- the bytes that an order names
 

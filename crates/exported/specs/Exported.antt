@@ -6,7 +6,7 @@ use mathlib.Core.Path.{_≡_}
 use mathlib.Core.Bool.{false}
 use mathlib.Core.List.{List, [], _∷_, map}
 use lib.Dec.{ltb}
-use lib.ListN.{length, take, getD}
+use lib.ListN.{length, take, drop, getD}
 use Rattle.scalar.specs.Bytes.{Each}
 use Rattle.device.specs.State.{held, byte}
 use Rattle.device.specs.State as S
@@ -23,13 +23,20 @@ use Rattle.joint.specs.Joined.{inputOf, CallIn, replies}
 use Rattle.joint.specs.Demands.{causeIn, brought, complaint}
 use Rattle.joint.specs.Named.{Orders}
 
--- the number, how many bytes were written, as many bytes from the output's start on, and the order
+-- the words of an answer: the number, and how many bytes were written
+abbrev pub numberIn : Left → ℕ
+numberIn x = getD (x .answer) 0 0
+
+abbrev pub countIn : Left → ℕ
+countIn x = getD (x .answer) 1 0
+
+-- with as many bytes from the output's start on, and the order
 unfoldable pub replyFrom : Left → Reply
 replyFrom x =
     record {
-      number = getD (x .answer) 0 0;
-      count = getD (x .answer) 1 0;
-      bytes = take (getD (x .answer) 1 0) (x .out);
+      number = numberIn x;
+      count = countIn x;
+      bytes = take (countIn x) (x .out);
       order = orderIn (x .next .commands) (orderFrom (x .answer));
     }
 
@@ -70,7 +77,7 @@ settled y = lent (controlWords (deviceIn (y .control))) (y .run) (y .commands) (
 -- demand1, for every control array and all memories: the causes are 01's, and a refusal leaves the memories and the output, and the state that the words stand for
 abbrev pub Demand1 : Lent → Call → Type 0
 Demand1 y c =
-    Exact (λ (x : Left). getD (x .answer) 0 0) (λ k. left (settled y) (refusalWords k) (c .out)) (causeIn (machineIn y) c) (called y c)
+    Exact numberIn (λ k. left (settled y) (refusalWords k) (c .out)) (causeIn (machineIn y) c) (called y c)
 
 -- unchanged: after any list of calls from power-up a refusal changes nothing at all
 abbrev pub Unchanged : List Call → Call → Type 0
@@ -87,6 +94,12 @@ Demand2 y o =
     ltb (length o) 283 ≡ false → stalled (x .device .air) ≡ false → 0 < x .device .link .run → brought x ≡ damaged
     → called y (call (byte 0) o) ≡ inWords (complaint x o)
 
+-- ---- the output
+
+-- rest-stays, for every control array and all memories: bytes past the written ones stay
+abbrev pub RestStays : Lent → Call → Type 0
+RestStays y c = drop (countIn (called y c)) (called y c .out) ≡ drop (countIn (called y c)) (c .out)
+
 -- ---- the bytes that an order names
 
 -- bytes-stay, uninterrupted: crate joint's statements, of the dongle as C calls it
@@ -96,7 +109,7 @@ exportedOrders =
       State = Lent;
       powerUp = first;
       next = λ y c. called y c .next;
-      number = λ y c. getD (called y c .answer) 0 0;
+      number = λ y c. numberIn (called y c);
       order = λ y c. orderFrom (called y c .answer);
       commands = λ y. y .commands;
     }

@@ -8,8 +8,7 @@ use Rattle.scalar.proofs.Bytes.{each-right}
 use Rattle.board.specs.Board.{sx1262}
 use Rattle.device.specs.State.{State, tagsOf}
 use Rattle.device.specs.State as S
-use Rattle.device.specs.Events.{step}
-use Rattle.device.specs.Demands.{defined, history, Demand1Seen, Contents, Demand2Seen, Demand2Wire, Demand3, InTime, DropCount}
+use Rattle.device.specs.Demands.{defined, Demand1Seen, Contents, Demand2Seen, Demand2Wire, Demand3, InTime, DropCount}
 use Rattle.device.proofs.Back.{TagIn}
 use Rattle.device.proofs.Ranges.{sx1262-in}
 use Rattle.device.proofs.History as H
@@ -72,8 +71,7 @@ module _ (w : Memories) (cs : List Call) (l : Each CallIn cs) where
   pub demand2-seen : (c : Call) → CallIn c → Demand2Seen (coded w) cs c
   demand2-seen c i = demand2-seen-carried (in-step w) cs l c i (H.demand2-seen sx1262 sx1262-in (map inputOf cs) given (inputOf c) i)
 
-  -- the messages that a call writes are those that the definition says
-  pub demand2-wire : (c : Call) → CallIn c → Demand2Wire (coded w) cs c (step sx1262 (history (defined sx1262) (map inputOf cs) .device) (inputOf c) .written)
+  pub demand2-wire : (c : Call) → CallIn c → Demand2Wire sx1262 (coded w) cs c
   demand2-wire c i = demand2-wire-carried (in-step w) cs l c i (H.demand2-wire sx1262 sx1262-in (map inputOf cs) given (inputOf c) i)
 
   pub demand3 : Demand3 (coded w) cs

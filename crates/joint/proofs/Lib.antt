@@ -7,6 +7,8 @@ pub mod Commands
 pub mod Byte
 pub mod Joint
 pub mod Refusals
+pub mod Output
 pub mod Demands
 pub mod Named
+pub mod Witnesses
 pub mod Values

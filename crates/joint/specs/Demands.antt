@@ -8,7 +8,7 @@ use mathlib.Core.Path.{_≡_}
 use mathlib.Core.Bool.{true, false, cond}
 use mathlib.Core.List.{List}
 use lib.Dec.{ltb}
-use lib.ListN.{length, take}
+use lib.ListN.{length, take, drop}
 use Rattle.numbers.specs.Numbers.{TAKEN}
 use Rattle.buffer.specs.Lay.{lay}
 use Rattle.cobs.specs.Answers.{encodedMax}
@@ -62,6 +62,12 @@ abbrev pub Demand2 : Machine → List ℕ → Type 0
 Demand2 y o =
     ltb (length o) 283 ≡ false → stalled (y .device .air) ≡ false → 0 < y .device .link .run → brought y ≡ damaged
     → runs y (record { event = byte 0; out = o }) ≡ complaint y o
+
+-- ---- the output, for every machine
+
+-- rest-stays: 01 "Bytes on the wire", bytes past the written ones stay
+abbrev pub RestStays : Machine → Call → Type 0
+RestStays y c = drop (runs y c .answer .written) (runs y c .out) ≡ drop (runs y c .answer .written) (c .out)
 
 -- ---- the code as a device of which demands 2 and 3 speak
 

@@ -1,0 +1,63 @@
+-- The bytes that an order names, on single lists of calls, by computing. They follow from `bytes-stay`; here a wrong device of must-fail/ is seen to break what is
+-- demanded, and not only its proof.
+-- Assumes nothing.
+use Prim.Native.Nat.{ℕ}
+use mathlib.Core.Path.{_≡_, refl}
+use mathlib.Core.Bool.{false}
+use mathlib.Core.List.{List, [], _∷_, _++_, map}
+use mathlib.Core.Option.{Option, some}
+use lib.ListN.{take, drop, replicate, length-replicate}
+use Rattle.cobs.specs.Answers.{encodedMax}
+use Rattle.kind.specs.Kinds.{TX}
+use Rattle.device.specs.State.{disconnect, Input}
+use Rattle.device.specs.Scripts.{lent, sends, ready}
+use Rattle.device.proofs.Computing.{computes}
+use Rattle.control.specs.Control.{within}
+use Rattle.slot.specs.Slots.{commandsSize, kept}
+use Rattle.wire.specs.Wire.{bytesOf}
+use Rattle.wire.specs.Wire as W
+use Rattle.queue.specs.Queue.{start, ldroAt, begin}
+use Rattle.session.specs.Session.{endSession, disconnectDone}
+use Rattle.configured.specs.Configured.{configuredDone}
+use Rattle.intake.specs.Intake.{onTx, onSet}
+use Rattle.dispatch.specs.Commands.{judged}
+use Rattle.link.specs.Link.{onJoin, onZero, byteDone}
+use Rattle.inbox.specs.Packets.{packetsSize}
+use Rattle.machine.specs.Machine.{Call, runs}
+use Rattle.joint.specs.Joined.{Memories}
+use Rattle.joint.specs.Named.{Named, Orders, Past, onward, after, past, codeOrders}
+
+-- memories of zeros, and events as calls
+abbrev zeros : Memories
+zeros =
+    record {
+      run = replicate encodedMax 0;
+      commands = replicate commandsSize 0;
+      packets = replicate packetsSize 0;
+      run-size = length-replicate {A = ℕ} _ 0;
+      commands-size = length-replicate {A = ℕ} _ 0;
+      packets-size = length-replicate {A = ℕ} _ 0;
+    }
+
+abbrev code : Orders
+code = codeOrders zeros
+
+abbrev calls : List Input → List Call
+calls is = map (λ i. record { event = i .event; out = replicate (i .room) 0 }) is
+
+-- the bytes that the radio needs, and those that stand there
+record Place : Type 0 where
+  needed : Option Named
+  now : List ℕ
+
+abbrev at : ℕ → ℕ → Past code → Place
+at k n h = record { needed = h .needed; now = take n (drop k (code .commands (h .device))) }
+
+-- bs stand at k, where the radio needs them
+abbrev Stays : List Input → ℕ → ℕ → List ℕ → Type 0
+Stays is k n bs = at k n (past code (calls is)) ≡ record { needed = some (record { at = k; size = n; bytes = bs; listens = false }); now = bs }
+
+-- the packet of an orphan: slot 0, after length, tag and flags
+pub orphan : Stays (ready ++ (sends TX 20 (0x01 ∷ 0x41 ∷ 0x42 ∷ []) ++ (lent disconnect ∷ []))) 4 2 (0x41 ∷ 0x42 ∷ [])
+unfolding computes within kept bytesOf W.sends start ldroAt begin endSession disconnectDone configuredDone onTx onSet judged onJoin onZero byteDone runs onward after past
+orphan = refl
