@@ -5,6 +5,7 @@ use Prim.Native.Nat.{ℕ, zero, suc}
 use mathlib.Core.Path.{_≡_, refl}
 use mathlib.Core.Bool.{true, false}
 use mathlib.Core.List.{List, [], _∷_, _++_, map}
+use mathlib.Core.Option.{none, some}
 use lib.Dec.{leb}
 use lib.IntN.{pos, negsuc}
 use lib.ListN.{length, replicate}
@@ -13,14 +14,14 @@ use Rattle.frame.specs.Body.{body}
 use Rattle.kind.specs.Kinds.{PING, GET-INFO, SET-CONFIG, TX, RX-START, RX-STOP}
 use Rattle.answer.specs.declared.Answer.the-variants as A
 use Rattle.board.specs.Board.{sx1262, infoOf, uidsOf}
-use Rattle.device.specs.State.{Packet, Event, byte, tick, busy, sent, configured, fault, packet, request, disconnect, Input, Order, nothing, standby, configure, transmit}
+use Rattle.device.specs.State.{Config, Packet, state, link, air, inbox, free, Event, byte, tick, busy, sent, configured, fault, packet, request, disconnect, Input, Order, nothing, standby, configure, transmit}
 use Rattle.device.specs.Messages.{Message, message, wires, EFRAME, ERADIO, ENOTCONFIGURED}
 use Rattle.device.specs.Events.{Reply}
 use Rattle.device.specs.Reading.{frames}
-use Rattle.device.specs.Tally.{Entry, entry, withRadio, waits, dones, newlyReported}
-use Rattle.device.specs.Observer.{settingIn}
+use Rattle.device.specs.Tally.{tally, Entry, entry, withRadio, waits, dones, newlyReported}
+use Rattle.device.specs.Observer.{observer, settingIn}
 use Rattle.device.specs.Due.{numberDue, errDue, doneDue, messagesDue, orderDue}
-use Rattle.device.specs.Demands.{System, History, defined, onward, history, answer, Closed, was-reported, was-dropped, closed, withRadioOf, waitingOf, dropCounts}
+use Rattle.device.specs.Demands.{System, History, defined, onward, after, begins, history, answer, Closed, was-reported, was-dropped, closed, withRadioOf, waitingOf, dropCounts}
 use Rattle.device.specs.Scripts.{lent, bytesIn, sends, lora, ready}
 use Rattle.device.proofs.Computing.{computes}
 
@@ -28,18 +29,38 @@ use Rattle.device.proofs.Computing.{computes}
 abbrev device : System
 device = defined sx1262
 
--- What is compared is one record for each history, so that the history is computed once.
+-- What is compared is one record for each history, by a definition that is opened here alone: so the history is computed once. They begin at power-up, or after the
+-- events `ready` by which a device is configured, whose history is computed first.
+
+abbrev fresh : History device
+fresh = begins device
+
+abbrev config : Config
+config = settingIn 3 (lora 7 14) .config
+
+abbrev setUp : History device
+setUp =
+    record {
+      device = state (some config) (link true 0 []) (air free [] none) (inbox false [] 0);
+      tally = tally [] true 0 false [];
+      observer = observer (some config) (air free [] none) (inbox false [] 0);
+      bytes = wires (message 3 (A.Configured (record { result = 0; owner = 1; current = config .modulation })) [] ∷ []);
+    }
+
+pub is-set-up : history device ready ≡ setUp
+unfolding computes
+is-set-up = refl
 
 -- ---- demand 1 and what is written and ordered, at one event more
 
 -- the answer, and what is due: `demand1-seen`, `contents`
-record Answered : Type 0 where
+pub record Answered : Type 0 where
   answers : Reply
   number : ℕ
   messages : List Message
   order : Order
 
-abbrev answered : History device → Event → Answered
+unfoldable pub answered : History device → Event → Answered
 answered h e =
     let r = answer device h (lent e) in
     record {
@@ -49,50 +70,50 @@ answered h e =
       order = orderDue sx1262 (r .number) e (h .tally) (h .observer);
     }
 
--- the number is n, the bytes and their count are those of these messages, and this is the order; and so is what is due
-abbrev Answers : List Input → Event → ℕ → List Message → Order → Type 0
-Answers is e n ms o =
-    answered (history device is) e
+-- After these events more: the number is n, the bytes and their count are those of these messages, and this is the order; and so is what is due.
+abbrev Answers : History device → List Input → Event → ℕ → List Message → Order → Type 0
+Answers h is e n ms o =
+    answered (after device h is) e
     ≡ record { answers = record { number = n; count = length (wires ms); bytes = wires ms; order = o }; number = n; messages = ms; order = o }
 
 -- it is taken, or refused
-abbrev Gives : List Input → Event → List Message → Order → Type 0
-Gives is e ms o = Answers is e 0 ms o
+abbrev Gives : History device → List Input → Event → List Message → Order → Type 0
+Gives h is e ms o = Answers h is e 0 ms o
 
-abbrev Refuses : List Input → Event → ℕ → Type 0
-Refuses is e n = Answers is e n [] nothing
+abbrev Refuses : History device → List Input → Event → ℕ → Type 0
+Refuses h is e n = Answers h is e n [] nothing
 
 -- ---- the clauses of demand 3
 
 -- `each`, at one event more: both are the tags ts
-record Reported : Type 0 where
+pub record Reported : Type 0 where
   written : List ℕ
   tallied : List ℕ
 
-abbrev reported : History device → Event → Reported
+unfoldable pub reported : History device → Event → Reported
 reported h e =
     record { written = dones (frames (answer device h (lent e) .bytes)); tallied = newlyReported (h .tally .txs) (onward device h (lent e) .tally .txs) }
 
-abbrev Reports : List Input → Event → List ℕ → Type 0
-Reports is e ts = reported (history device is) e ≡ record { written = ts; tallied = ts }
+abbrev Reports : History device → List Input → Event → List ℕ → Type 0
+Reports h is e ts = reported (after device h is) e ≡ record { written = ts; tallied = ts }
 
 -- `places`: these are reported or dropped, and the device has these open
-record Placed : Type 0 where
+pub record Placed : Type 0 where
   tallied : List Entry
   device : List Entry
 
 abbrev opens : History device → List Entry
 opens h = withRadioOf device (h .device) ++ waitingOf device (h .device)
 
-abbrev placed : History device → Placed
+unfoldable pub placed : History device → Placed
 placed h = record { tallied = h .tally .txs; device = opens h }
 
-abbrev Places : List Input → List Closed → List Entry → Type 0
-Places is before now = placed (history device is) ≡ record { tallied = map closed before ++ now; device = now }
+abbrev Places : History device → List Input → List Closed → List Entry → Type 0
+Places h is before now = placed (after device h is) ≡ record { tallied = map closed before ++ now; device = now }
 
 -- `few`
-abbrev Few : List Input → Type 0
-Few is = leb (length (opens (history device is))) 16 ≡ true
+abbrev Few : History device → List Input → Type 0
+Few h is = leb (length (opens (after device h is))) 16 ≡ true
 
 -- ---- scripts
 
@@ -102,7 +123,7 @@ tx t = sends TX t (0x01 ∷ 0x41 ∷ [])
 
 -- the TX 20 on air, the TX 21 waiting
 abbrev two : List Input
-two = ready ++ (tx 20 ++ tx 21)
+two = tx 20 ++ tx 21
 
 abbrev txs : ℕ → List Input
 txs zero = []
@@ -116,7 +137,7 @@ abbrev long : Packet
 long = record { rssi = pos 0; snr = pos 0; freq-err = pos 0; time = 0; crc-valid = true; bytes = replicate 256 0xBB }
 
 abbrev hears : List Packet → List Input
-hears ps = ready ++ (sends RX-START 10 [] ++ map (λ p. lent (packet p)) ps)
+hears ps = sends RX-START 10 [] ++ map (λ p. lent (packet p)) ps
 
 -- ---- what is written and ordered
 
@@ -124,46 +145,46 @@ abbrev ok : ℕ → Message
 ok t = message t A.Ok []
 
 -- the zero that ends a command
-abbrev Command : List Input → ℕ → ℕ → List ℕ → List Message → Order → Type 0
-Command is kind t p ms o = Gives (is ++ bytesIn (encoded (body kind t p))) (byte 0) ms o
+abbrev Command : History device → List Input → ℕ → ℕ → List ℕ → List Message → Order → Type 0
+Command h is kind t p ms o = Gives h (is ++ bytesIn (encoded (body kind t p))) (byte 0) ms o
 
 -- TX: a packet of 70 bytes goes on air unchanged, with skip_cad at once; without it the radio listens first under LoRa; the sixteenth is taken; without a payload, before
 -- any SET_CONFIG
 pub transmits :
-    Command ready TX 20 (0x01 ∷ replicate 70 0x41) (ok 20 ∷ []) (transmit (replicate 70 0x41) false)
-    × Command ready TX 20 (0x00 ∷ 0x41 ∷ []) (ok 20 ∷ []) (transmit (0x41 ∷ []) true)
-    × Command (ready ++ txs 15) TX 16 (0x01 ∷ 0x41 ∷ []) (ok 16 ∷ []) nothing
-    × Command [] TX 20 [] (errDue ENOTCONFIGURED 20 ∷ []) nothing
-unfolding computes
+    Command setUp [] TX 20 (0x01 ∷ replicate 70 0x41) (ok 20 ∷ []) (transmit (replicate 70 0x41) false)
+    × Command setUp [] TX 20 (0x00 ∷ 0x41 ∷ []) (ok 20 ∷ []) (transmit (0x41 ∷ []) true)
+    × Command setUp (txs 15) TX 16 (0x01 ∷ 0x41 ∷ []) (ok 16 ∷ []) nothing
+    × Command fresh [] TX 20 [] (errDue ENOTCONFIGURED 20 ∷ []) nothing
+unfolding computes answered
 transmits = (refl, refl, refl, refl)
 
 -- the outcomes of a TX: sent, with one that waits; a busy channel; a fault
 pub outcomes :
-    Gives two (sent 33792) (doneDue 0 33792 20 ∷ []) (transmit (0x41 ∷ []) false)
-    × Gives (ready ++ sends TX 20 (0x00 ∷ 0x41 ∷ [])) busy (doneDue 1 0 20 ∷ []) standby
-    × Gives (ready ++ tx 20) fault (errDue ERADIO 0 ∷ doneDue 2 0 20 ∷ []) standby
-unfolding computes
+    Gives setUp two (sent 33792) (doneDue 0 33792 20 ∷ []) (transmit (0x41 ∷ []) false)
+    × Gives setUp (sends TX 20 (0x00 ∷ 0x41 ∷ [])) busy (doneDue 1 0 20 ∷ []) standby
+    × Gives setUp (tx 20) fault (errDue ERADIO 0 ∷ doneDue 2 0 20 ∷ []) standby
+unfolding computes answered
 outcomes = (refl, refl, refl)
 
 -- SET_CONFIG: it orders its parameters and LDRO, and has no answer yet; its OK comes when the radio is configured; but where its session has ended, nothing is said
 pub configures :
-    Command [] SET-CONFIG 3 (lora 12 14) [] (configure (settingIn 3 (lora 12 14) .config) true)
-    × Gives (sends SET-CONFIG 3 (lora 12 14)) configured
+    Command fresh [] SET-CONFIG 3 (lora 12 14) [] (configure (settingIn 3 (lora 12 14) .config) true)
+    × Gives fresh (sends SET-CONFIG 3 (lora 12 14)) configured
     (message 3 (A.Configured (record { result = 0; owner = 1; current = settingIn 3 (lora 12 14) .config .modulation })) [] ∷ []) nothing
-    × Gives (sends SET-CONFIG 3 (lora 12 14) ++ (lent disconnect ∷ [])) configured [] standby
-unfolding computes
+    × Gives fresh (sends SET-CONFIG 3 (lora 12 14) ++ (lent disconnect ∷ [])) configured [] standby
+unfolding computes answered
 configures = (refl, refl, refl)
 
 -- the rest of what a host sends: RX_STOP while a TX is on air orders nothing; a run that holds the byte 7F; a tick between the bytes of a PING; GET_INFO; a damaged frame; a
 -- disconnect with a free radio
 pub asks :
-    Command (ready ++ (sends RX-START 10 [] ++ tx 20)) RX-STOP 11 [] (ok 11 ∷ []) nothing
-    × Command [] PING 0x7F7F [] (ok 0x7F7F ∷ []) nothing
-    × Gives (sends PING 1 [] ++ (bytesIn (0x03 ∷ 0x01 ∷ []) ++ (lent tick ∷ bytesIn (0x01 ∷ 0x03 ∷ 0x9D ∷ 0xC8 ∷ [])))) (byte 0) (ok 1 ∷ []) nothing
-    × Command [] GET-INFO 2 [] (message 2 (A.Info (infoOf sx1262)) (uidsOf sx1262) ∷ []) nothing
-    × Gives (bytesIn (0x05 ∷ [])) (byte 0) (errDue EFRAME 0 ∷ []) nothing
-    × Gives ready disconnect [] standby
-unfolding computes
+    Command setUp (sends RX-START 10 [] ++ tx 20) RX-STOP 11 [] (ok 11 ∷ []) nothing
+    × Command fresh [] PING 0x7F7F [] (ok 0x7F7F ∷ []) nothing
+    × Gives fresh (sends PING 1 [] ++ (bytesIn (0x03 ∷ 0x01 ∷ []) ++ (lent tick ∷ bytesIn (0x01 ∷ 0x03 ∷ 0x9D ∷ 0xC8 ∷ [])))) (byte 0) (ok 1 ∷ []) nothing
+    × Command fresh [] GET-INFO 2 [] (message 2 (A.Info (infoOf sx1262)) (uidsOf sx1262) ∷ []) nothing
+    × Gives fresh (bytesIn (0x05 ∷ [])) (byte 0) (errDue EFRAME 0 ∷ []) nothing
+    × Gives setUp [] disconnect [] standby
+unfolding computes answered
 asks = (refl, refl, refl, refl, refl, refl)
 
 -- a request: the oldest packet, with each of its values; one over 255 bytes is cut
@@ -174,29 +195,29 @@ delivers p valid bs =
     bs
 
 pub delivered :
-    Gives (hears (quiet ∷ long ∷ [])) request (delivers quiet 1 (0xAA ∷ []) ∷ []) nothing
-    × Gives (hears (long ∷ [])) request (delivers long 0 (replicate 255 0xBB) ∷ []) nothing
-unfolding computes
+    Gives setUp (hears (quiet ∷ long ∷ [])) request (delivers quiet 1 (0xAA ∷ []) ∷ []) nothing
+    × Gives setUp (hears (long ∷ [])) request (delivers long 0 (replicate 255 0xBB) ∷ []) nothing
+unfolding computes answered
 delivered = (refl, refl)
 
 -- ---- the causes of a refusal
 
 -- after a fault while configuring bytes are taken again; a packet does not fit while a TX is on air, and still fits after a damaged frame
 pub refuses :
-    Gives (sends SET-CONFIG 3 (lora 7 14) ++ (lent fault ∷ [])) (byte 3) [] nothing
-    × Refuses (ready ++ (sends RX-START 10 [] ++ tx 20)) (packet quiet) 3
-    × Gives (hears [] ++ bytesIn (0x05 ∷ 0x00 ∷ [])) (packet quiet) [] nothing
-unfolding computes
+    Gives fresh (sends SET-CONFIG 3 (lora 7 14) ++ (lent fault ∷ [])) (byte 3) [] nothing
+    × Refuses setUp (sends RX-START 10 [] ++ tx 20) (packet quiet) 3
+    × Gives setUp (hears [] ++ bytesIn (0x05 ∷ 0x00 ∷ [])) (packet quiet) [] nothing
+unfolding computes answered
 refuses = (refl, refl, refl)
 
 -- ---- each TX_DONE, and each place
 
 -- of a SET_CONFIG that falls into a transmission; of an orphan that has been sent; of a TX that has been sent
 pub reports :
-    Reports (two ++ bytesIn (encoded (body SET-CONFIG 22 (lora 7 14)))) (byte 0) []
-    × Reports (ready ++ (tx 20 ++ (lent disconnect ∷ []))) (sent 33792) []
-    × Reports two (sent 33792) (20 ∷ [])
-unfolding computes
+    Reports setUp (two ++ bytesIn (encoded (body SET-CONFIG 22 (lora 7 14)))) (byte 0) []
+    × Reports setUp (tx 20 ++ (lent disconnect ∷ [])) (sent 33792) []
+    × Reports setUp two (sent 33792) (20 ∷ [])
+unfolding computes reported
 reports = (refl, refl, refl)
 
 -- after a fault while a SET_CONFIG waits, and then 1000 ticks; after 1000 ticks while a TX is on air; with one tag three times
@@ -204,25 +225,23 @@ abbrev faulted : List Input
 faulted = two ++ (sends SET-CONFIG 22 (lora 7 14) ++ (lent fault ∷ replicate 1000 (lent tick)))
 
 pub places :
-    Places faulted (was-reported 20 ∷ was-reported 21 ∷ []) []
-    × Places (ready ++ (tx 20 ++ replicate 1000 (lent tick))) (was-dropped 20 ∷ []) []
-    × Places (ready ++ (tx 20 ++ (tx 20 ++ tx 20))) [] (entry 20 withRadio ∷ entry 20 waits ∷ entry 20 waits ∷ [])
-unfolding computes
+    Places setUp faulted (was-reported 20 ∷ was-reported 21 ∷ []) []
+    × Places setUp (tx 20 ++ replicate 1000 (lent tick)) (was-dropped 20 ∷ []) []
+    × Places setUp (tx 20 ++ (tx 20 ++ tx 20)) [] (entry 20 withRadio ∷ entry 20 waits ∷ entry 20 waits ∷ [])
+unfolding computes placed
 places = (refl, refl, refl)
 
 -- of 17 TX
-pub seventeen : Few (ready ++ txs 17)
+pub seventeen : Few setUp (txs 17)
 unfolding computes
 seventeen = refl
 
 -- ---- the drop count
 
 -- 65 packets, and two requests: the first RX reports one lost, the second none
-abbrev heard : List Input
-heard = hears (replicate 65 quiet)
+abbrev Counts : List Input → List ℕ → Type 0
+Counts is ns = dropCounts (frames (answer device (after device setUp is) (lent request) .bytes)) ≡ ns
 
-pub drops :
-    (dropCounts (frames (answer device (history device heard) (lent request) .bytes)) ≡ 1 ∷ [])
-    × (dropCounts (frames (answer device (history device (heard ++ (lent request ∷ []))) (lent request) .bytes)) ≡ 0 ∷ [])
+pub drops : Counts (hears (replicate 65 quiet)) (1 ∷ []) × Counts (hears (replicate 65 quiet) ++ (lent request ∷ [])) (0 ∷ [])
 unfolding computes
 drops = (refl, refl)
