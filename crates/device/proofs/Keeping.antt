@@ -18,7 +18,7 @@ use Rattle.board.specs.Board.{Board}
 use Rattle.device.specs.State.{Config, Setting, Tx, Radio, free, listening, onAir, orphan, configuring, Packet, Inbox, State, link, air, state, deaf, held, tagsOf, open#, runs?, stalled}
 use Rattle.device.specs.State.{Event, byte, tick, clear, busy, sent, configured, fault, packet, request, disconnect, Input, Order, nothing, standby, configure, transmit, receive, free?}
 use Rattle.device.specs.Messages.{Frame, Message, ok, okInfo, err, txDone, ERADIO, EUNKNOWN-CMD, ENOTCONFIGURED, TRANSMITTED, CANCELLED, seen}
-use Rattle.device.specs.Frames.{Received, damaged, command, received, objection, settingOf, txOf}
+use Rattle.device.specs.Frames.{Received, damaged, command, objection, settingOf, txOf}
 use Rattle.device.specs.Reading.{brings}
 use Rattle.device.specs.Events.{Out, changed, next, refused, begun, listens, idle, says, onTx, onSet, onCommand, turned, unless, onReceived, onByte, onPacket, onRequest, onEvent, endSession, unlessRoom, step, roomMin, ticksMax}
 use Rattle.device.specs.Tally.{sessionEnded, afterTime, withTxs, radioReported, Entry, Tally, tally, ifTaken, afterTaken, afterOrder, unlessConfigure, settled, noted, dones, newlyReported}

@@ -6,7 +6,7 @@ use mathlib.Core.Path.{_≡_, refl, sym, ap, _∙_}
 use mathlib.Core.Bool.{Bool, true, false, cond, _&&_, not, and-false, true≢false}
 use mathlib.Core.List.{List, [], _∷_, _++_, map, append-nil}
 use mathlib.Core.Option.{Option, none, some}
-use Prim.Native.Nat.{ℕ, zero, suc, _+_, min}
+use Prim.Native.Nat.{ℕ, zero, suc, min}
 use native.Mathlib.Omega.{arith}
 use lib.Dec.{ltb, eqb}
 use lib.ListN.{length}
@@ -20,7 +20,7 @@ use Rattle.device.specs.State.{Config, Setting, Tx, Radio, free, listeni
 use Rattle.device.specs.State.{Event, byte, tick, clear, busy, sent, configured, fault, packet, request, disconnect, Input, Order, nothing, standby, transmit, receive}
 use Rattle.device.specs.Messages.{Frame, Message, yes, ok, okInfo, err, txDone, rx, cancelled, CANCELLED, EFRAME, seen}
 use Rattle.device.specs.Frames.{Received, damaged, command, received, objection, settingOf, txOf}
-use Rattle.device.specs.Events.{Out, taken, refused, listens, listensIn, begun, idle, next, says, turned, onTx, onSet, unless, onCommand, onReceived, onByte, unlessStalled, onClear, onBusy, onSent, onConfigured, onFault, onPacket, onRequest, endSession, onTick, onDisconnect, onEvent, unlessRoom, step, roomMin, ticksMax}
+use Rattle.device.specs.Events.{Out, refused, listens, listensIn, begun, idle, next, says, turned, onTx, onSet, unless, onCommand, onReceived, onByte, unlessStalled, onClear, onBusy, onSent, onConfigured, onFault, onPacket, onRequest, endSession, onTick, onDisconnect, onEvent, unlessRoom, step, roomMin, ticksMax}
 use Rattle.device.specs.Reading.{brings}
 use Rattle.device.specs.Tally.{Tally, ifTaken}
 use Rattle.device.specs.Observer.{Observer, observer, radioEnds, orderNoted, sends, sessionOver, noted}

@@ -6,9 +6,8 @@ use mathlib.Core.Path.{_≡_, refl, sym, ap, ap₂, subst, _∙_}
 use mathlib.Core.List.{List, [], _∷_, _++_, map}
 use Prim.Native.Nat.{ℕ, suc, _<_}
 use native.Mathlib.Omega.{arith}
-use lib.ListN.{replicate, length-replicate, length-append}
+use lib.ListN.{length-append}
 use Rattle.scalar.specs.Bytes.{Each}
-use Rattle.cobs.specs.Answers.{encodedMax}
 use Rattle.board.specs.Board.{sx1262}
 use Rattle.device.specs.State.{State}
 use Rattle.device.specs.State as S
@@ -20,15 +19,13 @@ use Rattle.device.proofs.History as H
 use Rattle.device.proofs.Carrying.{InStep, given-in, demand1-seen-carried, contents-carried, demand2-seen-carried, demand2-wire-carried, demand3-carried, in-time-carried, drop-count-carried}
 use Rattle.control.specs.declared.Radio.{Radio}
 use Rattle.control.specs.declared.Device.{Device}
-use Rattle.slot.specs.Slots.{commandsSize}
-use Rattle.inbox.specs.Packets.{packetsSize}
 use Rattle.words.specs.Words.{radioTag, controlWords, answerWords}
 use Rattle.words.specs.Ranges.{DeviceIn}
 use Rattle.words.proofs.Laws.{round-trip, order-back}
 use Rattle.machine.specs.Machine.{Machine, machine, Call, runs}
 use Rattle.dongle.specs.Calls.{Lent, lent, first, machineIn, Left, left, inWords, called}
 use Rattle.joint.specs.Seen.{replyOf}
-use Rattle.joint.specs.Joined.{Memories, started, inputOf, CallIn, replies}
+use Rattle.joint.specs.Joined.{zeros, started, inputOf, CallIn, replies}
 use Rattle.joint.specs.Named.{BytesStay, Uninterrupted}
 use Rattle.joint.proofs.Stands.{RunAs, as-run, as-long, RadioAs, as-free, as-listening, as-onAir, as-orphan, as-configuring}
 use Rattle.joint.proofs.Outcomes.{length-tags}
@@ -99,19 +96,8 @@ joins-next y s h c i = in-words (runs (machineIn y) c .next) (step sx1262 s (inp
 
 -- ---- power-up
 
-abbrev memories : Memories
-memories =
-    record {
-      run = replicate encodedMax 0;
-      commands = replicate commandsSize 0;
-      packets = replicate packetsSize 0;
-      run-size = length-replicate {A = ℕ} _ 0;
-      commands-size = length-replicate {A = ℕ} _ 0;
-      packets-size = length-replicate {A = ℕ} _ 0;
-    }
-
 joins-first : Joins first S.powerUp
-joins-first = in-words (started memories) S.powerUp (meets-first memories)
+joins-first = in-words (started zeros) S.powerUp (meets-first zeros)
 
 -- ---- demand 1
 
@@ -151,8 +137,8 @@ step-by-step =
       answer = λ y s h c i. same-words y c ∙ same-reply (h .meets) c i;
       next = λ y s h c i. joins-next y s h c i;
       stays = λ y s h c i n e. refused-stays y c (h .own) n e;
-      radio = λ y s h. in-step memories .radio (machineIn y) s (h .meets);
-      waiting = λ y s h. in-step memories .waiting (machineIn y) s (h .meets);
+      radio = λ y s h. in-step zeros .radio (machineIn y) s (h .meets);
+      waiting = λ y s h. in-step zeros .waiting (machineIn y) s (h .meets);
     }
 
 module _ (cs : List Call) (l : Each CallIn cs) where
@@ -208,12 +194,12 @@ rest-stays y c = Output.rest-stays (machineIn y) c
 -- ---- the bytes that an order names
 
 -- the dongle goes in step with the code
-in-code : InCode exportedOrders memories
+in-code : InCode exportedOrders zeros
 unfolding called answerWords
 in-code =
     record {
       machine = machineIn;
-      powerUp = back (started memories) (numbers-small (meets-first memories));
+      powerUp = back (started zeros) (numbers-small (meets-first zeros));
       next = λ y s h c i. back (runs (machineIn y) c .next) (numbers-small (meets-next h c i));
       number = λ y c. refl;
       order = λ y c. order-back (runs (machineIn y) c .answer);
@@ -221,7 +207,7 @@ in-code =
     }
 
 pub bytes-stay : (cs : List Call) → Each CallIn cs → BytesStay exportedOrders cs
-bytes-stay cs l = stay-in-code exportedOrders memories in-code cs l
+bytes-stay cs l = stay-in-code exportedOrders zeros in-code cs l
 
 pub uninterrupted : (cs : List Call) → Each CallIn cs → Uninterrupted exportedOrders cs
-uninterrupted cs l = alone-in-code exportedOrders memories in-code cs l
+uninterrupted cs l = alone-in-code exportedOrders zeros in-code cs l

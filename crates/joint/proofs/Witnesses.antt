@@ -6,14 +6,13 @@ use mathlib.Core.Path.{_≡_, refl}
 use mathlib.Core.Bool.{false}
 use mathlib.Core.List.{List, [], _∷_, _++_, map}
 use mathlib.Core.Option.{Option, some}
-use lib.ListN.{take, drop, replicate, length-replicate}
-use Rattle.cobs.specs.Answers.{encodedMax}
+use lib.ListN.{take, drop, replicate}
 use Rattle.kind.specs.Kinds.{TX}
 use Rattle.device.specs.State.{disconnect, Input}
 use Rattle.device.specs.Scripts.{lent, sends, ready}
 use Rattle.device.proofs.Computing.{computes}
 use Rattle.control.specs.Control.{within}
-use Rattle.slot.specs.Slots.{commandsSize, kept}
+use Rattle.slot.specs.Slots.{kept}
 use Rattle.wire.specs.Wire.{bytesOf}
 use Rattle.wire.specs.Wire as W
 use Rattle.queue.specs.Queue.{start, ldroAt, begin}
@@ -22,26 +21,14 @@ use Rattle.configured.specs.Configured.{configuredDone}
 use Rattle.intake.specs.Intake.{onTx, onSet}
 use Rattle.dispatch.specs.Commands.{judged}
 use Rattle.link.specs.Link.{onJoin, onZero, byteDone}
-use Rattle.inbox.specs.Packets.{packetsSize}
 use Rattle.machine.specs.Machine.{Call, runs}
-use Rattle.joint.specs.Joined.{Memories}
+use Rattle.joint.specs.Joined.{zeros}
 use Rattle.joint.specs.Named.{Named, Orders, Past, onward, after, past, codeOrders}
-
--- memories of zeros, and events as calls
-abbrev zeros : Memories
-zeros =
-    record {
-      run = replicate encodedMax 0;
-      commands = replicate commandsSize 0;
-      packets = replicate packetsSize 0;
-      run-size = length-replicate {A = ℕ} _ 0;
-      commands-size = length-replicate {A = ℕ} _ 0;
-      packets-size = length-replicate {A = ℕ} _ 0;
-    }
 
 abbrev code : Orders
 code = codeOrders zeros
 
+-- events as calls
 abbrev calls : List Input → List Call
 calls is = map (λ i. record { event = i .event; out = replicate (i .room) 0 }) is
 

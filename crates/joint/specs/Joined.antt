@@ -3,7 +3,7 @@
 use Prim.Native.Nat.{ℕ}
 use mathlib.Core.Path.{_≡_}
 use mathlib.Core.List.{List, [], _∷_, map}
-use lib.ListN.{length}
+use lib.ListN.{length, replicate, length-replicate}
 use Rattle.cobs.specs.Answers.{encodedMax}
 use Rattle.scalar.specs.Bytes.{Each}
 use Rattle.board.specs.Board.{sx1262}
@@ -27,6 +27,18 @@ pub record Memories : Type 0 where
   pub run-size : length run ≡ encodedMax
   pub commands-size : length commands ≡ commandsSize
   pub packets-size : length packets ≡ packetsSize
+
+-- filled with zero, as the code's own are
+abbrev pub zeros : Memories
+zeros =
+    record {
+      run = replicate encodedMax 0;
+      commands = replicate commandsSize 0;
+      packets = replicate packetsSize 0;
+      run-size = length-replicate {A = ℕ} _ 0;
+      commands-size = length-replicate {A = ℕ} _ 0;
+      packets-size = length-replicate {A = ℕ} _ 0;
+    }
 
 abbrev pub started : Memories → Machine
 started w = machine powerUp (w .run) (w .commands) (w .packets)
