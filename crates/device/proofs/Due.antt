@@ -1,4 +1,5 @@
--- What is read off the messages that are due: one ERR(EFRAME) with tag 0 where a damaged run ends, and no other; one drop count where an RX is due, and no other.
+-- What is read off the messages that are due: one ERR(EFRAME) with tag 0 where a damaged run ends, and no other; one drop count where an RX is due, and no
+-- other.
 -- The idea: apart from that ERR and that RX each message is `Plain`, which both readings pass over.
 -- Assumes nothing.
 use mathlib.Core.Path.{_≡_, refl, sym, ap}

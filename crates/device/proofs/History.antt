@@ -1,7 +1,7 @@
--- The demands on the defined device over every list of events from power-up: demands 1 and 2 by what was seen, what is written and ordered, what is written is read
--- back, demand 3, 01's last line on events, and the drop count.
--- The idea: a history is good where its tally is that of its device (Keeping), and so is what the observer knows (Observing), each number is a value of its type
--- (Ranges), and its bytes are the wires of messages that are read back (Wires); one event more keeps that.
+-- The demands on the defined device over every list of events from power-up: demands 1 and 2 by what was seen, what is written and ordered, what is written is
+-- read back, demand 3, 01's last line on events, and the drop count.
+-- The idea: a history is good where its tally is that of its device (Keeping), and so is what the observer knows (Observing), each number is a value of its
+-- type (Ranges), and its bytes are the wires of messages that are read back (Wires); one event more keeps that.
 -- Assumes nothing.
 use mathlib.Core.Path.{_≡_, refl, sym, ap, ap₂, _∙_}
 use mathlib.Core.Bool.{Bool, true, false}

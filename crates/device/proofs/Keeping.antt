@@ -183,8 +183,8 @@ module _ (b : Board) (c : List Closed) where
     kept-clear is-alone = refusal _ clear 2 is-alone
     kept-clear is-configuring = refusal _ clear 2 is-configuring
 
-    -- Busy, sent and fault do the same to the tally: the TX with the radio is reported, and then the order counts. A fault also settles what is pending: nothing
-    -- is, or the order is to configure.
+    -- Busy, sent and fault do the same to the tally: the TX with the radio is reported, and then the order counts. A fault also settles what is pending:
+    -- nothing is, or the order is to configure.
     abbrev ended : Tally → Tally
     ended t = withTxs (map radioReported (t .txs)) t
 

@@ -1,6 +1,6 @@
 -- What joins the observer to the device's state, and that each event keeps it, writes the messages that are due and gives the order that is due.
--- The idea: what the observer knows is a function of the state, `knownOf`, but for the packets lost, of which the state counts 65,535 at most. An event's rule and
--- what is due at it then compute to the same in every case of the radio. The errors of a command are in Errors.antt.
+-- The idea: what the observer knows is a function of the state, `knownOf`, but for the packets lost, of which the state counts 65,535 at most. An event's rule
+-- and what is due at it then compute to the same in every case of the radio. The errors of a command are in Errors.antt.
 -- Assumes nothing.
 use mathlib.Core.Path.{_≡_, refl, sym, ap, _∙_}
 use mathlib.Core.Bool.{Bool, true, false, cond, _&&_, not, and-false, true≢false}

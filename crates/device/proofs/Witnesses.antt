@@ -1,5 +1,6 @@
--- The demands on single histories, by computing: the number of an event, what is written and ordered, demand 3 and the drop count. They follow from the theorems; here
--- the wrong devices of must-fail/ are seen to break what is demanded, and not only its proof: each has another value where one of these has its own.
+-- The demands on single histories, by computing: the number of an event, what is written and ordered, demand 3 and the drop count. They follow from the
+-- theorems; here the wrong devices of must-fail/ are seen to break what is demanded, and not only its proof: each has another value where one of these has its
+-- own.
 -- Assumes nothing.
 use Prim.Native.Nat.{ℕ, zero, suc}
 use mathlib.Core.Path.{_≡_, refl}
@@ -29,8 +30,8 @@ use Rattle.device.proofs.Computing.{computes}
 abbrev device : System
 device = defined sx1262
 
--- What is compared is one record for each history, by a definition that is opened here alone: so the history is computed once. They begin at power-up, or after the
--- events `ready` by which a device is configured, whose history is computed first.
+-- What is compared is one record for each history, by a definition that is opened here alone: so the history is computed once. They begin at power-up, or after
+-- the events `ready` by which a device is configured, whose history is computed first.
 
 abbrev fresh : History device
 fresh = begins device
@@ -148,8 +149,8 @@ ok t = message t A.Ok []
 abbrev Command : History device → List Input → ℕ → ℕ → List ℕ → List Message → Order → Type 0
 Command h is kind t p ms o = Gives h (is ++ bytesIn (encoded (body kind t p))) (byte 0) ms o
 
--- TX: a packet of 70 bytes goes on air unchanged, with skip_cad at once; without it the radio listens first under LoRa; the sixteenth is taken; without a payload, before
--- any SET_CONFIG
+-- TX: a packet of 70 bytes goes on air unchanged, with skip_cad at once; without it the radio listens first under LoRa; the sixteenth is taken; without a
+-- payload, before any SET_CONFIG
 pub transmits :
     Command setUp [] TX 20 (0x01 ∷ replicate 70 0x41) (ok 20 ∷ []) (transmit (replicate 70 0x41) false)
     × Command setUp [] TX 20 (0x00 ∷ 0x41 ∷ []) (ok 20 ∷ []) (transmit (0x41 ∷ []) true)
@@ -166,7 +167,8 @@ pub outcomes :
 unfolding computes answered
 outcomes = (refl, refl, refl)
 
--- SET_CONFIG: it orders its parameters and LDRO, and has no answer yet; its OK comes when the radio is configured; but where its session has ended, nothing is said
+-- SET_CONFIG: it orders its parameters and LDRO, and has no answer yet; its OK comes when the radio is configured; but where its session has ended, nothing is
+-- said
 pub configures :
     Command fresh [] SET-CONFIG 3 (lora 12 14) [] (configure (settingIn 3 (lora 12 14) .config) true)
     × Gives fresh (sends SET-CONFIG 3 (lora 12 14)) configured
@@ -175,8 +177,8 @@ pub configures :
 unfolding computes answered
 configures = (refl, refl, refl)
 
--- the rest of what a host sends: RX_STOP while a TX is on air orders nothing; a run that holds the byte 7F; a tick between the bytes of a PING; GET_INFO; a damaged frame; a
--- disconnect with a free radio
+-- the rest of what a host sends: RX_STOP while a TX is on air orders nothing; a run that holds the byte 7F; a tick between the bytes of a PING; GET_INFO; a
+-- damaged frame; a disconnect with a free radio
 pub asks :
     Command setUp (sends RX-START 10 [] ++ tx 20) RX-STOP 11 [] (ok 11 ∷ []) nothing
     × Command fresh [] PING 0x7F7F [] (ok 0x7F7F ∷ []) nothing

@@ -1,6 +1,6 @@
--- The demands as statements about the device: 00, demands 1 to 3; 01's last line under "What each event does"; the drop count of P 6.9.
--- Demand 1, and demand 2 for damaged frames, speak of every state of the device as 01 defines it. What is demanded after a list of events is stated for any device.
--- proofs/ has each of them proved of the defined device, under the name that stands above it here.
+-- The demands as statements about the device: 00, demands 1 to 3; 01's last line under "What each event does"; the drop count of P 6.9. Demand 1, and demand 2
+-- for damaged frames, speak of every state of the device as 01 defines it. What is demanded after a list of events is stated for any device. proofs/ has each
+-- of them proved of the defined device, under the name that stands above it here.
 -- Assumes nothing.
 use Prim.Native.Nat.{ℕ, zero, suc, _+_, _≤_, _<_, min}
 use mathlib.Core.Path.{_≡_}
@@ -144,7 +144,8 @@ messagesNext b y is i = messagesDue b (answer y (history y is) i .number) (y .ev
 abbrev pub orderNext : Board → (y : System) → List (y .Given) → y .Given → Order
 orderNext b y is i = orderDue b (answer y (history y is) i .number) (y .event i) (history y is .tally) (history y is .observer)
 
--- contents: the bytes of one event more are the frames of the messages that are due, and the order is the one that is due; as many bytes are written as are counted
+-- contents: the bytes of one event more are the frames of the messages that are due, and the order is the one that is due; as many bytes are written as are
+-- counted
 pub record Contents (b : Board) (y : System) (is : List (y .Given)) (i : y .Given) : Type 0 where
   pub count : answer y (history y is) i .count ≡ length (answer y (history y is) i .bytes)
   pub bytes : answer y (history y is) i .bytes ≡ wires (messagesNext b y is i)
@@ -179,7 +180,8 @@ unfoldable pub eframes : List Frame → ℕ
 eframes [] = 0
 eframes (frame k t p ∷ fs) = cond (eqb k ERR && (eqb t 0 && eqb (number p) EFRAME)) 1 0 + eframes fs
 
--- demand2-seen: one event more draws ERR(EFRAME) with tag 0, once, where it ends a damaged run, and else not; and there it writes nothing else and orders nothing
+-- demand2-seen: one event more draws ERR(EFRAME) with tag 0, once, where it ends a damaged run, and else not; and there it writes nothing else and orders
+-- nothing
 pub record Demand2Seen (y : System) (is : List (y .Given)) (i : y .Given) : Type 0 where
   pub tells : eframes (frames (answer y (history y is) i .bytes))
       ≡ ifTaken (answer y (history y is) i .number) (cond (endsDamaged (y .event i) (history y is .tally .run)) 1 0) 0
@@ -188,8 +190,8 @@ pub record Demand2Seen (y : System) (is : List (y .Given)) (i : y .Given) : Type
 
 -- ---- demand 2, the bytes: what an event writes is read back as the messages written
 
--- The writer of answers (crate compose) takes it into any memory that an event may be lent, and writes just these bytes; and the host's reader, with any command
--- named that the answer may have, takes the frame, and has the same answer with the same bytes.
+-- The writer of answers (crate compose) takes it into any memory that an event may be lent, and writes just these bytes; and the host's reader, with any
+-- command named that the answer may have, takes the frame, and has the same answer with the same bytes.
 pub record Back (m : Message) : Type 0 where
   pub written : (room : ℕ) → 283 ≤ room → writeAnswer (K.Answers (answerName (m .answer))) (answerKind (m .answer)) (m .tag) (payload m) room ≡ W.Done (length (wire m))
   pub left : (d : List ℕ) → 283 ≤ length d → writeLeft (K.Answers (answerName (m .answer))) (answerKind (m .answer)) (m .tag) (payload m) d ≡ lay 0 (wire m) d
@@ -223,8 +225,8 @@ waitingOf y s = map (λ t. entry t waits) (y .waiting s)
 
 -- demand3: after every list of events, and at every event that follows it
 pub record Demand3 (y : System) (is : List (y .Given)) : Type 0 where
-  -- in number order: first those reported or dropped, then the one with the radio, if any, then those that wait; these two are the device's own, by place, order
-  -- and tag
+  -- in number order: first those reported or dropped, then the one with the radio, if any, then those that wait; these two are the device's own, by place,
+  -- order and tag
   pub before : List Closed
   pub places : history y is .tally .txs ≡ map closed before ++ (withRadioOf y (history y is .device) ++ waitingOf y (history y is .device))
   pub one : length (withRadioOf y (history y is .device)) ≤ 1

@@ -1,6 +1,6 @@
--- What is due at an event, by what the observer knows: the number, the messages and the order. 01 "Numbers that come back", "A run of bytes becomes a frame" and "What
--- each event does", told from outside. Of the device only the types and P's error codes are used here: each rule is said once more, with the papers' own numbers, and
--- the demands hold the device to it.
+-- What is due at an event, by what the observer knows: the number, the messages and the order. 01 "Numbers that come back", "A run of bytes becomes a frame"
+-- and "What each event does", told from outside. Of the device only the types and P's error codes are used here: each rule is said once more, with the papers'
+-- own numbers, and the demands hold the device to it.
 -- Assumes nothing.
 use Prim.Native.Nat.{ℕ, zero, suc, _+_, min}
 use mathlib.Core.Bool.{Bool, true, false, cond, not, _&&_, _||_}

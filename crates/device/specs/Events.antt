@@ -147,8 +147,8 @@ abbrev pub heard : Bool → Message → List Message
 heard true m = m ∷ []
 heard false m = []
 
--- While configuring, it fails the SET_CONFIG: ERR(ERADIO) with its tag, UNCONFIGURED, standby. Otherwise ERR(ERADIO) comes with tag 0, then the TX with the radio is
--- reported with 2, and then all goes on as after a TX.
+-- While configuring, it fails the SET_CONFIG: ERR(ERADIO) with its tag, UNCONFIGURED, standby. Otherwise ERR(ERADIO) comes with tag 0, then the TX with the
+-- radio is reported with 2, and then all goes on as after a TX.
 abbrev pub onFault : Radio → State → Out
 onFault free s = afterTx (heard (s .link .session) (err ERADIO 0)) s
 onFault (listening t) s = afterTx (heard (s .link .session) (err ERADIO 0) ++ (txDone CANCELLED 0 t ∷ [])) s

@@ -1,5 +1,5 @@
--- What an observer outside knows, beside the tally: 01 "What each event does". It sees an event's arguments and its answer (number, frames written, order), and never
--- the device's state. Of the device only the types are used here and no rule: what an event brings about is told by its answer.
+-- What an observer outside knows, beside the tally: 01 "What each event does". It sees an event's arguments and its answer (number, frames written, order), and
+-- never the device's state. Of the device only the types are used here and no rule: what an event brings about is told by its answer.
 -- Assumes nothing.
 use Prim.Native.Nat.{ℕ, zero, suc}
 use mathlib.Core.Bool.{Bool, true, false, cond, not, _&&_}
@@ -21,8 +21,9 @@ use Rattle.device.specs.Tally.{Tally, ifTaken, wrote}
 
 -- ---- what it keeps
 
--- The configuration in force. The radio, as its orders and outcomes leave it, the TX that wait, oldest first, and the SET_CONFIG that waits. Whether receiving is on, the
--- packets that are held, oldest first, and how many were lost since the last RX, the session's start or the last SET_CONFIG taken, whichever came last.
+-- The configuration in force. The radio, as its orders and outcomes leave it, the TX that wait, oldest first, and the SET_CONFIG that waits. Whether receiving
+-- is on, the packets that are held, oldest first, and how many were lost since the last RX, the session's start or the last SET_CONFIG taken, whichever came
+-- last.
 pub record Observer : Type 0 where
   pub config : Option Config
   pub air : Air
@@ -57,7 +58,8 @@ settingIn t p = record { tag = t; config = record { modulation = configOf p; wor
 abbrev pub receives : Bool → Observer → Observer
 receives on k = withInbox (inbox on (k .inbox .ring) (k .inbox .drops)) k
 
--- A TX with its OK waits; a SET_CONFIG without an ERR waits, ends receiving, and clears ring and count; RX_START and RX_STOP with their OK begin and end receiving.
+-- A TX with its OK waits; a SET_CONFIG without an ERR waits, ends receiving, and clears ring and count; RX_START and RX_STOP with their OK begin and end
+-- receiving.
 abbrev pub commandNoted : Received → List Frame → Observer → Observer
 commandNoted damaged fs k = k
 commandNoted (command kind t p) fs k =

@@ -26,8 +26,8 @@ pub record Tx : Type 0 where
   pub flags : ℕ
   pub packet : List ℕ
 
--- What the radio does: nothing; it waits for a clear channel, to send a TX; it sends one; it sends one whose session has ended, the orphan; it is being configured.
--- Of a TX only the tag is still needed. C is what is kept here of the SET_CONFIG.
+-- What the radio does: nothing; it waits for a clear channel, to send a TX; it sends one; it sends one whose session has ended, the orphan; it is being
+-- configured. Of a TX only the tag is still needed. C is what is kept here of the SET_CONFIG.
 pub data RadioOf (C : Type 0) : Type 0 where
   free : RadioOf C
   listening : ℕ → RadioOf C

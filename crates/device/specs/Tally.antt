@@ -155,8 +155,8 @@ afterSetting disconnect o t = t
 abbrev pub sessionEnded : Tally → Tally
 sessionEnded t = tally [] false 0 false (map (openTo dropped) (t .txs))
 
--- last: a tick counts in an open session with nothing pending; the one that makes 1000 ends the session, and so does a disconnect. The number is 01's, and not the
--- device's constant.
+-- last: a tick counts in an open session with nothing pending; the one that makes 1000 ends the session, and so does a disconnect. The number is 01's, and not
+-- the device's constant.
 abbrev pub afterTime : Event → Tally → Tally
 afterTime (byte n) t = t
 afterTime tick t =

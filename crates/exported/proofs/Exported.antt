@@ -1,6 +1,6 @@
 -- The dongle that C calls goes in step with the device of the definition, from power-up on; so the demands hold of it.
--- The idea: it is the device in code (crate joint) with its state in words, and a state that can be reached has numbers of its types, so that it comes back from
--- its words unchanged.
+-- The idea: it is the device in code (crate joint) with its state in words, and a state that can be reached has numbers of its types, so that it comes back
+-- from its words unchanged.
 -- Assumes nothing.
 use mathlib.Core.Path.{_≡_, refl, sym, ap, ap₂, subst, _∙_}
 use mathlib.Core.List.{List, [], _∷_, _++_, map}

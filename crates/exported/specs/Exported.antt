@@ -1,5 +1,5 @@
--- The dongle as C calls it, as a device of which the demands speak: what is seen of it is the words of its answers, the bytes of its output, and the bytes in the
--- memory of commands that an order names. proofs/ has the demands proved of it, under the names that they have in crate device.
+-- The dongle as C calls it, as a device of which the demands speak: what is seen of it is the words of its answers, the bytes of its output, and the bytes in
+-- the memory of commands that an order names. proofs/ has the demands proved of it, under the names that they have in crate device.
 -- Assumes nothing.
 use Prim.Native.Nat.{ℕ, suc, _<_}
 use mathlib.Core.Path.{_≡_}
@@ -74,7 +74,8 @@ refusalWords n = n ∷ 0 ∷ 0 ∷ 0 ∷ 0 ∷ 0 ∷ 0 ∷ []
 abbrev pub settled : Lent → Lent
 settled y = lent (controlWords (deviceIn (y .control))) (y .run) (y .commands) (y .packets)
 
--- demand1, for every control array and all memories: the causes are 01's, and a refusal leaves the memories and the output, and the state that the words stand for
+-- demand1, for every control array and all memories: the causes are 01's, and a refusal leaves the memories and the output, and the state that the words stand
+-- for
 abbrev pub Demand1 : Lent → Call → Type 0
 Demand1 y c =
     Exact numberIn (λ k. left (settled y) (refusalWords k) (c .out)) (causeIn (machineIn y) c) (called y c)

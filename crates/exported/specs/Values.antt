@@ -1,5 +1,5 @@
--- An event that C passes is a value of its type: the statement, of every call of the three functions whose events have numbers. CallIn asks nothing of the seven
--- others. proofs/ has it proved, as `values-in`.
+-- An event that C passes is a value of its type: the statement, of every call of the three functions whose events have numbers. CallIn asks nothing of the
+-- seven others. proofs/ has it proved, as `values-in`.
 -- Assumes nothing.
 use Prim.Native.Nat.{ℕ}
 use mathlib.Core.List.{List}

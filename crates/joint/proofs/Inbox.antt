@@ -1,6 +1,6 @@
 -- Packets, in code and in the definition.
--- The idea: a packet is stored in the slot past the last, in a full ring the slot of the oldest; what a request delivers is the slot of the oldest, with the drop
--- count stored inside it.
+-- The idea: a packet is stored in the slot past the last, in a full ring the slot of the oldest; what a request delivers is the slot of the oldest, with the
+-- drop count stored inside it.
 -- Assumes nothing.
 use mathlib.Core.Path.{_≡_, refl, sym, ap, ap₂, subst, _∙_}
 use mathlib.Core.Bool.{Bool, true, false, cond}

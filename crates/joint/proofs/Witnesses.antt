@@ -1,5 +1,5 @@
--- The bytes that an order names, on single lists of calls, by computing. They follow from `bytes-stay`; here a wrong device of must-fail/ is seen to break what is
--- demanded, and not only its proof.
+-- The bytes that an order names, on single lists of calls, by computing. They follow from `bytes-stay`; here a wrong device of must-fail/ is seen to break what
+-- is demanded, and not only its proof.
 -- Assumes nothing.
 use Prim.Native.Nat.{ℕ}
 use mathlib.Core.Path.{_≡_, refl}

@@ -1,6 +1,6 @@
--- The demands as statements about the device in code: 00, demands 1 to 3; 01's last line under "What each event does"; the drop count of P 6.9.
--- Demand 1, and demand 2 for damaged frames, speak of every state and all memories, also of such as no list of events leads to. What is demanded after a list of
--- events is stated in crate device for any device: here is the code as such a device.
+-- The demands as statements about the device in code: 00, demands 1 to 3; 01's last line under "What each event does"; the drop count of P 6.9. Demand 1, and
+-- demand 2 for damaged frames, speak of every state and all memories, also of such as no list of events leads to. What is demanded after a list of events is
+-- stated in crate device for any device: here is the code as such a device.
 -- proofs/ has each of them proved of the code, under the name that stands above it here or there.
 -- Assumes nothing.
 use Prim.Native.Nat.{ℕ, _<_}

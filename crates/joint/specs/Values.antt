@@ -15,8 +15,8 @@ use Rattle.machine.specs.Machine.{eventOf}
 use Rattle.machine.proofs.step.{signature}
 use Rattle.joint.specs.Joined.{CallIn}
 
--- P holds of the arguments a of every call of a function: in every model of the logic it follows from what the function's contract is given on entry, its requires
--- left out; which is that each of a is a value of its parameter's type, passed as the machine values vss
+-- P holds of the arguments a of every call of a function: in every model of the logic it follows from what the function's contract is given on entry, its
+-- requires left out; which is that each of a is a value of its parameter's type, passed as the machine values vss
 abbrev pub EveryCall : (S : Signature) → ((κs : Lfts (S .lifetimes)) → Args S κs → Type 0) → Type 2
 EveryCall S P =
     (M : Type 1) (𝓤 : URA M) (H : Heap 𝓤) (A : Atoms 𝓤) (κs : Lfts (S .lifetimes)) (qs : Shares (S .lifetimes)) (a : Args S κs) (vss : Vals S κs)
