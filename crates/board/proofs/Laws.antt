@@ -10,7 +10,6 @@ use native.Mathlib.Nat.{mod-eq-of-lt, pow-le-pow-right}
 use native.Mathlib.Omega.{arith}
 use borrow.Author.Tests.{lt-ltb, le-ltb, le-leb, lt-leb, eq-eqb, ne-eqb, eqb-true}
 use lib.Dec.{leb, ltb, eqb, leb·zero, leb·suc-suc}
-use lib.IntN.{pos, negsuc}
 use lib.ListN.{getD}
 use Rattle.buffer.proofs.Deciding.{same, le-or-lt}
 use Rattle.scalar.specs.Bytes.{Each}
@@ -43,24 +42,16 @@ among-run x lo (suc n) = ap (λ (t : Bool). eqb x lo || t) (among-run x (suc lo)
         simp (ne-eqb x lo d, le-leb lo x h, le-leb (suc lo) x (omega arith), e)
     go (inr d) (inr h) = simp (ne-eqb x lo d, lt-leb lo x h, lt-leb (suc lo) x (omega arith))
 
-pub sf-among : (x : ℕ) → among x (sx1262 .sfs) ≡ (leb 5 x && leb x 12)
+sf-among : (x : ℕ) → among x (sx1262 .sfs) ≡ (leb 5 x && leb x 12)
 unfolding sx1262
 sf-among x = among-run x 5 8 ∙ ap (λ (t : Bool). leb 5 x && t) (leb·suc-suc x 12)
 
-pub bw-among : (x : ℕ) → among x (sx1262 .bws) ≡ leb x 9
+bw-among : (x : ℕ) → among x (sx1262 .bws) ≡ leb x 9
 unfolding sx1262
 bw-among x = among-run x 0 10 ∙ ap (λ (t : Bool). t && ltb x 10) (leb·zero x) ∙ leb·suc-suc x 9
 
-pub weakest : sx1262 .power-min ≡ negsuc 8
-unfolding sx1262
-weakest = refl
-
-pub strongest : sx1262 .power-max ≡ pos 22
-unfolding sx1262
-strongest = refl
-
 -- no bit 17
-pub iq-none : (x : ℕ) → iqGood sx1262 x ≡ eqb x 0
+iq-none : (x : ℕ) → iqGood sx1262 x ≡ eqb x 0
 unfolding sx1262 among
 iq-none x = go (eqb x 1) refl
   where

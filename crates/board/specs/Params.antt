@@ -42,12 +42,16 @@ unfoldable pub paramsGood : Board → Modulation → Bool
 paramsGood b (M.Lora m) = loraGood b m
 paramsGood b (M.Fsk m) = fskGood b m
 
--- ---- 01's board, in 01's own numbers
+-- ---- 01's board, in 01's own numbers: "What the firmware covers", and the paragraph after the seven steps
 
--- lora-taken: 150,000,000 to 960,000,000 Hz, -9 to 22 dBm, SF 5 to 12, bw 0 to 9, cr 0 to 3, header and crc 0 or 1, iq 0; negsuc 8 is -9
+-- 150,000,000 to 960,000,000 Hz
+abbrev pub freqTaken : ℕ → Bool
+freqTaken f = leb 150000000 f && leb f 960000000
+
+-- lora-taken: the frequency, -9 to 22 dBm, SF 5 to 12, bw 0 to 9, cr 0 to 3, header and crc 0 or 1, iq 0; negsuc 8 is -9
 abbrev pub loraTaken : Lora → Bool
 loraTaken m =
-    (leb 150000000 (m .«freq_hz») && leb (m .«freq_hz») 960000000)
+    freqTaken (m .«freq_hz»)
     && ((leZ (negsuc 8) (m .«tx_power_dbm») && leZ (m .«tx_power_dbm») (pos 22))
     && ((leb 5 (m .sf) && leb (m .sf) 12)
     && (leb (m .bw) 9
@@ -58,4 +62,4 @@ loraTaken m =
 
 -- fsk-taken: the frequency, and a sync word of 8 bytes at most
 abbrev pub fskTaken : Fsk → Bool
-fskTaken m = (leb 150000000 (m .«freq_hz») && leb (m .«freq_hz») 960000000) && leb (m .«sync_word_len») 8
+fskTaken m = freqTaken (m .«freq_hz») && leb (m .«sync_word_len») 8

@@ -142,7 +142,8 @@ module _ (b : Board) (board : BoardIn b) where
   -- ---- what is written and ordered
 
   -- the messages that are written are those that are due
-  says-due : (is : List Input) → Each InputIn is → (i : Input) → InputIn i → step b (history (defined b) is .device) i .written ≡ messagesNext b (defined b) is i
+  says-due : (is : List Input) → Each InputIn is → (i : Input) → InputIn i
+      → step b (history (defined b) is .device) i .written ≡ messagesNext b (defined b) is i
   says-due is l i e =
       let g = good is l in
       told g i e .written ∙ sym (ap₂ (messagesDue b (step b (history (defined b) is .device) i .number) (i .event)) (g .agrees) (g .knows))

@@ -31,7 +31,8 @@ abbrev device : System
 device = defined sx1262
 
 -- What is compared is one record for each history, by a definition that is opened here alone: so the history is computed once. They begin at power-up, or after
--- the events `ready` by which a device is configured, whose history is computed first.
+-- the events `ready` by which a device is configured, whose history is computed first. Of a wrong device for which that is another one, those that begin at
+-- power-up speak.
 
 abbrev fresh : History device
 fresh = begins device
@@ -177,12 +178,16 @@ pub configures :
 unfolding computes answered
 configures = (refl, refl, refl)
 
+-- a PING without its zero, with a tick in the middle
+abbrev interrupted : List Input
+interrupted = bytesIn (0x03 ∷ 0x01 ∷ []) ++ (lent tick ∷ bytesIn (0x01 ∷ 0x03 ∷ 0x9D ∷ 0xC8 ∷ []))
+
 -- the rest of what a host sends: RX_STOP while a TX is on air orders nothing; a run that holds the byte 7F; a tick between the bytes of a PING; GET_INFO; a
 -- damaged frame; a disconnect with a free radio
 pub asks :
     Command setUp (sends RX-START 10 [] ++ tx 20) RX-STOP 11 [] (ok 11 ∷ []) nothing
     × Command fresh [] PING 0x7F7F [] (ok 0x7F7F ∷ []) nothing
-    × Gives fresh (sends PING 1 [] ++ (bytesIn (0x03 ∷ 0x01 ∷ []) ++ (lent tick ∷ bytesIn (0x01 ∷ 0x03 ∷ 0x9D ∷ 0xC8 ∷ [])))) (byte 0) (ok 1 ∷ []) nothing
+    × Gives fresh (sends PING 1 [] ++ interrupted) (byte 0) (ok 1 ∷ []) nothing
     × Command fresh [] GET-INFO 2 [] (message 2 (A.Info (infoOf sx1262)) (uidsOf sx1262) ∷ []) nothing
     × Gives fresh (bytesIn (0x05 ∷ [])) (byte 0) (errDue EFRAME 0 ∷ []) nothing
     × Gives setUp [] disconnect [] standby

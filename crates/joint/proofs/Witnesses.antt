@@ -44,7 +44,14 @@ at k n h = record { needed = h .needed; now = take n (drop k (code .commands (h 
 abbrev Stays : List Input → ℕ → ℕ → List ℕ → Type 0
 Stays is k n bs = at k n (past code (calls is)) ≡ record { needed = some (record { at = k; size = n; bytes = bs; listens = false }); now = bs }
 
+-- what the code's definitions compute with, beside those of crate device
+unfoldable pub runsComputes : Unit {0}
+unfolding
+    computes within kept bytesOf W.sends start ldroAt begin endSession disconnectDone configuredDone
+    onTx onSet judged onJoin onZero byteDone runs onward after past
+runsComputes = tt
+
 -- the packet of an orphan: slot 0, after length, tag and flags
 pub orphan : Stays (ready ++ (sends TX 20 (0x01 ∷ 0x41 ∷ 0x42 ∷ []) ++ (lent disconnect ∷ []))) 4 2 (0x41 ∷ 0x42 ∷ [])
-unfolding computes within kept bytesOf W.sends start ldroAt begin endSession disconnectDone configuredDone onTx onSet judged onJoin onZero byteDone runs onward after past
+unfolding runsComputes
 orphan = refl

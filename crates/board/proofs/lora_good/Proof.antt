@@ -1,12 +1,12 @@
--- The tests are the definition's, with the lists of values as ranges and the power read back from its bits.
+-- The tests are 01's own numbers, with the power read back from its bits.
 -- Assumes nothing.
 use mathlib.Core.Bool.{and-assoc}
 use native.Mathlib.Omega.{arith}
 use mir.Facts.{toZ-ofZ}
 use mir.Syntax.{w8}
 use Rattle.modulation.specs.Ranges.{LoraIn}
-use Rattle.board.specs.Params.{loraGood}
-use Rattle.board.proofs.Laws.{weakest, strongest, sf-among, bw-among, iq-none}
+use Rattle.board.specs.Board.{sx1262}
+use Rattle.board.proofs.Laws.{lora-taken}
 use borrow.Author.Needs.{needs}
 use Rattle.board.proofs.lora_good.Statement.{statement}
 use Rattle.board.proofs.lora_good.Tie as tie
@@ -15,13 +15,13 @@ freq-good-requires : tie.Need-freq-good-requires
 freq-good-requires c κs = search needs
 
 returns : tie.Need-returns
-unfolding loraGood
+unfolding sx1262
 returns c =
     let freq = c .before .before .before .before .before .before .before .before .before .before .before .freq-good .ensures in
     let s = c .before .before .before .before .before .before .before .before .before .before .before .before in
     let r : LoraIn (s .args .m) = omega (arith, s .good) in
     let power = toZ-ofZ {w = w8} {z = s .args .m .«tx_power_dbm»} record { sfits = r .«tx_power_dbm» } in
-    simp (freq, power, sf-among, bw-among, iq-none, and-assoc) (rw (weakest, strongest))
+    rw (lora-taken (s .args .m)) (simp (freq, power, and-assoc))
 
 pub lora-good-spec : {M : Type 1} → statement M
 lora-good-spec = tie.close (tie.spec freq-good-requires returns)
