@@ -11,6 +11,7 @@ use lib.Dec.{ltb, eqb}
 use lib.ListN.{length, drop, length-drop, take-append-drop}
 use Rattle.buffer.specs.Lay.{lay}
 use Rattle.numbers.specs.declared.Refusal.the-variants as R
+use Rattle.numbers.proofs.Laws.{same-by, refusal-back, answerBy}
 use Rattle.scalar.specs.Scalars.{le, column, get}
 use Rattle.scalar.proofs.Laws.{number-le}
 use Rattle.form.specs.Forms.{exactly, atLeast}
@@ -26,10 +27,12 @@ use Rattle.info.specs.Info.{infoForm, infoBytes}
 use Rattle.info.proofs.Laws.{info-back, info-form-back, info-size, length-info, uids-back}
 use Rattle.rx.specs.Rx.{rxForm, rxBytes}
 use Rattle.rx.proofs.Laws.{packet-back, rx-back, rx-size}
-use Rattle.answer.specs.Answers.{configuredForm, configuredOf, configuredBytes, txDoneForm, txDoneBytes, okForm, answerForm, answerOf, readAnswer, answerKind, answerName, Names, answerBytes, answerTail}
+use Rattle.answer.specs.Answers.{configuredForm, configuredOf, configuredBytes, txDoneForm, txDoneBytes, okForm, answerForm, answerOf}
+use Rattle.answer.specs.Answers.{readAnswer, answeredSays, answerKind, answerName, Names, answerBytes, answerTail}
 use Rattle.answer.specs.Ranges.{AnswerIn}
 use Rattle.answer.specs.declared.Answer.{Answer}
 use Rattle.answer.specs.declared.Answer.the-variants as A
+use Rattle.answer.specs.declared.Answered.{Answered}
 use Rattle.answer.specs.declared.Answered.the-variants as D
 
 -- ---- the longest payloads
@@ -115,6 +118,16 @@ answer-most (A.TxDone r t) bs e = omega (arith, tx-done-small (txDoneBytes r t +
 pub answer-long : (a : Answer) (bs : List ℕ) → 255 < length bs
     → exactly (answerForm (answerKind a) (answerName a) (answerBytes a bs)) (length (answerBytes a bs)) ≡ false
 answer-long a bs h = refuted _ (λ e. omega (arith, answer-most a bs e))
+
+-- ---- what reading answers
+
+answered-back : (a : Answered) → answerBy D.Answer D.Refused (answeredSays a) ≡ a
+answered-back (D.Answer a) = refl
+answered-back (D.Refused r) = ap D.Refused (refusal-back r)
+
+-- it is told by its number and its answer
+pub answered-same : (a b : Answered) → answeredSays a ≡ answeredSays b → a ≡ b
+answered-same = same-by answeredSays (answerBy D.Answer D.Refused) answered-back
 
 -- ---- read back
 

@@ -6,6 +6,8 @@ use mathlib.Core.Bool.{cond}
 use mathlib.Core.List.{List, _++_}
 use lib.Dec.{ltb, eqb}
 use lib.ListN.{length, replicate, drop}
+use Rattle.numbers.specs.Refusals.{refusalNumber}
+use Rattle.numbers.specs.Came.{Came, took, refusedWith}
 use Rattle.numbers.specs.declared.Refusal.the-variants as R
 use Rattle.scalar.specs.Scalars.{Column, column, get, put}
 use Rattle.form.specs.Forms.{atLeast}
@@ -125,6 +127,11 @@ readAnswer kind name p =
     cond (isAnswer kind)
     (cond (atLeast (answerForm kind name p) (length p)) (D.Answer (answerOf kind name p)) (D.Refused R.Form))
     (D.Refused R.Type)
+
+-- what comes back: 01's number, and the answer
+abbrev pub answeredSays : Answered → Came Answer
+answeredSays (D.Answer a) = took a
+answeredSays (D.Refused r) = refusedWith (refusalNumber r)
 
 -- the type of an answer
 abbrev pub answerKind : Answer → ℕ

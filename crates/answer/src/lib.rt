@@ -3,7 +3,7 @@ ghost use mathlib.Core.Path.{_≡_};
 ghost use mathlib.Core.Bool.{true};
 ghost use lib.ListN.{length};
 ghost use Rattle.form.specs.Forms.{atLeast};
-ghost use Rattle.answer.specs.Answers.{answerForm, answerOf, answerKind, answerName, configuredForm, okForm, okOf, readAnswer, txDoneForm};
+ghost use Rattle.answer.specs.Answers.{answeredSays, answerForm, answerOf, answerKind, answerName, configuredForm, okForm, okOf, readAnswer, txDoneForm};
 use form::Form;
 use info::Info;
 use kind::ERR;
@@ -55,7 +55,7 @@ pub enum Answered {
 
 // Reads a payload of some type as an answer; an OK as that to the command of this name.
 pub fn read_answer(kind: u8, name: Name, payload: &[u8]) -> Answered
-    ensures { λ r. ⌜ r ≡ readAnswer kind name (now (payload .entry)) ⌝ }
+    ensures { λ r. ⌜ answeredSays r ≡ answeredSays (readAnswer kind name (now (payload .entry))) ⌝ }
 {
     if kind::is_answer(kind) {
         if form::at_least(answer_form(kind, name, payload), payload.len()) {

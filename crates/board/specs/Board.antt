@@ -6,7 +6,7 @@ use mathlib.Core.List.{List, [], _∷_, _++_}
 use lib.Dec.{eqb}
 use lib.IntN.{ℤ, pos, negsuc}
 use lib.ListN.{length}
-use Rattle.command.specs.Commands.{packetMax}
+use Rattle.kind.specs.Kinds.{packetMax}
 use Rattle.info.specs.declared.Info.{Info}
 
 -- a profile

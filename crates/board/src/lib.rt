@@ -6,12 +6,14 @@ ghost use Rattle.info.specs.Info.{infoBytes};
 ghost use Rattle.board.specs.Board.{sx1262, infoOf, uidsOf};
 ghost use Rattle.board.specs.Ldro.{bandwidths, slow};
 ghost use Rattle.board.specs.Params.{freqGood, loraGood, fskGood, paramsGood};
+use form::YES;
 use modulation::Fsk;
 use modulation::Lora;
 use modulation::Modulation;
+use modulation::SYNC_WORD_MAX;
 
 // The bytes of what the board says of itself: P 6.2, with eight of the MCU's uid.
-pub const INFO_SIZE: usize = 45;
+pub const BOARD_INFO_SIZE: usize = 45;
 // So many received packets are held, and so many TX can be open.
 pub const RING_MAX: usize = 64;
 
@@ -30,12 +32,8 @@ const SF_MIN: u8 = 5;
 const SF_MAX: u8 = 12;
 
 const BW_MAX: u8 = 9;
-// P 10.1, the highest coding rate, and of fields that are yes or no.
+// P 10.1, the highest coding rate.
 const CR_MAX: u8 = 3;
-
-const YES: u8 = 1;
-// P 10.2.
-const SYNC_WORD_MAX: u8 = 8;
 
 // A bandwidth value in Hz, and 0 for what is no value.
 fn bandwidth(bw: u8) -> u32
@@ -107,7 +105,7 @@ pub fn params_good(m: Modulation) -> bool
 }
 
 // What the board says of itself: the payload of the OK to GET_INFO, P C.2.2.
-pub fn info() -> [u8; INFO_SIZE]
+pub fn info() -> [u8; BOARD_INFO_SIZE]
     ensures { λ r. ⌜ r ≡ infoBytes (infoOf sx1262) (uidsOf sx1262) ⌝ }
 {
     [

@@ -11,10 +11,8 @@ use cobs::ENCODED_MAX;
 use frame::Opened;
 use numbers::Refusal;
 
-// How many bytes of a run are kept: a longer run is no frame.
-pub const RUN_MAX: usize = ENCODED_MAX;
-
-// Where a capture stands between two pieces.
+// Where a capture stands between two pieces. Of a run so many bytes are kept as a frame can have, and
+// a longer one is none.
 pub struct Stream {
     // The offset of the run's first byte.
     pub at: u64,
@@ -29,7 +27,7 @@ fn open_run(n: u64, run: &[u8]) -> Opened
     requires { ⌜ encodedMax ≤ length (now run) ⌝ }
     ensures { λ r. ⌜ r ≡ openRun n (now (run .entry)) ⌝ }
 {
-    if (RUN_MAX as u64) < n {
+    if (ENCODED_MAX as u64) < n {
         return Opened::Refused(Refusal::Length);
     }
     let mut memory = [0u8; ENCODED_MAX];
@@ -55,7 +53,7 @@ fn keep(n: u64, b: u8, run: &mut [u8])
     requires { ⌜ encodedMax ≤ length (now run) ⌝ }
     ensures { λ r. ⌜ now (run .exit) ≡ keep n b (now (run .entry)) ⌝ }
 {
-    if n < (RUN_MAX as u64) {
+    if n < (ENCODED_MAX as u64) {
         run[n as usize] = b;
     }
 }

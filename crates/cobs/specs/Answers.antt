@@ -1,4 +1,4 @@
--- What encoding and decoding answer, in the order of 01 "Bytes on the wire"; what they leave of the destination, and the number of each answer, by
+-- What encoding and decoding answer, in the order of 01 "Bytes on the wire"; what they leave of the destination, and what comes back of each answer, by
 -- 01 "Numbers that come back".
 -- Assumes nothing.
 use Prim.Native.Nat.{ℕ}
@@ -6,7 +6,8 @@ use mathlib.Core.Bool.{cond}
 use mathlib.Core.List.{List}
 use lib.Dec.{ltb}
 use lib.ListN.{length}
-use Rattle.numbers.specs.Numbers.{TAKEN, SHORT, STUFF, LENGTH}
+use Rattle.numbers.specs.Numbers.{SHORT, STUFF, LENGTH}
+use Rattle.numbers.specs.Came.{Came, took, refusedWith}
 use Rattle.buffer.specs.Lay.{lay}
 use Rattle.cobs.specs.Encoding.{encoded, worst}
 use Rattle.cobs.specs.Decoding.{broken, decoded}
@@ -56,14 +57,14 @@ decodeBy D.Length s d = d
 unfoldable pub decodeLeft : List ℕ → List ℕ → List ℕ
 decodeLeft s d = decodeBy (decodeAnswer s (length d)) s d
 
--- the number of an answer
-abbrev pub encodeNumber : Encoded → ℕ
-encodeNumber (E.Done n) = TAKEN
-encodeNumber E.Short = SHORT
-encodeNumber E.Length = LENGTH
+-- what comes back: 01's number, and how many bytes were written
+abbrev pub encodedSays : Encoded → Came ℕ
+encodedSays (E.Done n) = took n
+encodedSays E.Short = refusedWith SHORT
+encodedSays E.Length = refusedWith LENGTH
 
-abbrev pub decodeNumber : Decoded → ℕ
-decodeNumber (D.Done n) = TAKEN
-decodeNumber D.Short = SHORT
-decodeNumber D.Stuff = STUFF
-decodeNumber D.Length = LENGTH
+abbrev pub decodedSays : Decoded → Came ℕ
+decodedSays (D.Done n) = took n
+decodedSays D.Short = refusedWith SHORT
+decodedSays D.Stuff = refusedWith STUFF
+decodedSays D.Length = refusedWith LENGTH

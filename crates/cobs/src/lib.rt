@@ -7,14 +7,14 @@ ghost use lib.ListN.{length};
 ghost use Rattle.buffer.specs.Lay.{lay};
 ghost use Rattle.cobs.specs.Encoding.{group, encoded, worst};
 ghost use Rattle.cobs.specs.Decoding.{hasZero, whole, broken, decoded};
-ghost use Rattle.cobs.specs.Answers.{bodyMax, encodeAnswer, encodeLeft, decodeAnswer, decodeLeft};
+ghost use Rattle.cobs.specs.Answers.{encodeAnswer, encodeLeft, encodedSays, decodeAnswer, decodeLeft, decodedSays};
 
 // The longest body: 01 "Bytes on the wire".
 pub const BODY_MAX: usize = 280;
 // The most that it becomes when it is encoded.
 pub const ENCODED_MAX: usize = 282;
 // The bytes of a full group.
-const FULL: usize = 254;
+pub const FULL: usize = 254;
 
 // What encoding answers.
 pub enum Encoded {
@@ -40,29 +40,29 @@ pub enum Decoded {
 
 // Encodes src ("stuffing" in 01) into dst.
 pub fn encode(src: &[u8], dst: &mut [u8]) -> Encoded
-    ensures { λ r. ⌜ r ≡ encodeAnswer (now (src .entry)) (length (now (dst .entry))) ⌝ }
+    ensures { λ r. ⌜ encodedSays r ≡ encodedSays (encodeAnswer (now (src .entry)) (length (now (dst .entry)))) ⌝ }
     ensures { λ r. ⌜ now (dst .exit) ≡ encodeLeft (now (src .entry)) (now (dst .entry)) ⌝ }
 {
     let n = src.len();
     if BODY_MAX < n {
         return Encoded::Length;
     }
-    if dst.len() < worst(n) {
+    if dst.len() < worst(n as u16) {
         return Encoded::Short;
     }
     Encoded::Done(encode_into(src, dst))
 }
 
-// The most that n bytes become. A helper of the crates above, as the next: they show that n is
-// small, and that the encoding has room.
-pub fn worst(n: usize) -> usize
-    requires { ⌜ n ≤ bodyMax ⌝ }
+// The most that n bytes become.
+pub fn worst(n: u16) -> usize
     ensures { λ r. ⌜ r ≡ worst n ⌝ }
 {
+    let n = n as usize;
     n + n / FULL + 1
 }
 
-// Writes the encoding of src, group by group: r bytes are read and w written.
+// Writes the encoding of src, group by group: r bytes are read and w written. A helper of the
+// crates above: they show that it has room.
 pub fn encode_into(src: &[u8], dst: &mut [u8]) -> usize
     requires { ⌜ worst (length (now src)) ≤ length (now dst) ⌝ }
     ensures { λ r. ⌜ r ≡ length (encoded (now (src .entry))) ⌝ }
@@ -109,7 +109,7 @@ fn copy_group(src: &[u8], dst: &mut [u8], at: usize) -> usize
 
 // Decodes src ("unstuffing" in 01) into dst.
 pub fn decode(src: &[u8], dst: &mut [u8]) -> Decoded
-    ensures { λ r. ⌜ r ≡ decodeAnswer (now (src .entry)) (length (now (dst .entry))) ⌝ }
+    ensures { λ r. ⌜ decodedSays r ≡ decodedSays (decodeAnswer (now (src .entry)) (length (now (dst .entry)))) ⌝ }
     ensures { λ r. ⌜ now (dst .exit) ≡ decodeLeft (now (src .entry)) (now (dst .entry)) ⌝ }
 {
     if ENCODED_MAX < src.len() {

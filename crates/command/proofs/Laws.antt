@@ -12,6 +12,7 @@ use denote.Enum.Declared.{tagOf}
 use types.Run.{OneOf, miss}
 use lib.Dec.{ltb, eqb}
 use lib.ListN.{length}
+use Rattle.numbers.proofs.Laws.{same-by, refusal-back, answerBy}
 use Rattle.buffer.specs.Lay.{lay}
 use Rattle.scalar.specs.Scalars.{le}
 use Rattle.scalar.proofs.Laws.{number-le}
@@ -21,10 +22,11 @@ use Rattle.form.specs.declared.Form.the-variants as F
 use Rattle.kind.specs.Kinds.{SET-CONFIG, TX, isCommand}
 use Rattle.modulation.specs.Modulations.{configForm, configBytes}
 use Rattle.modulation.proofs.Laws.{config-back, config-small, fixed-most, length-config, word-back}
-use Rattle.command.specs.Commands.{txForm, txBytes, commandForm, commandOf, readCommand, commandKind, commandBytes, commandTail}
+use Rattle.command.specs.Commands.{askedSays, txForm, txBytes, commandForm, commandOf, readCommand, commandKind, commandBytes, commandTail}
 use Rattle.command.specs.Ranges.{CommandIn}
 use Rattle.command.specs.declared.Command.{Command}
 use Rattle.command.specs.declared.Command.the-variants as C
+use Rattle.command.specs.declared.Asked.{Asked}
 use Rattle.command.specs.declared.Asked.the-variants as A
 use Rattle.command.proofs.Command.{the-type}
 
@@ -99,6 +101,16 @@ command-most C.RxStop bs e = omega (arith, eqb-true 0 (length bs) e)
 pub command-long : (c : Command) (bs : List ℕ) → 255 < length bs
     → exactly (commandForm (commandKind c) (commandBytes c bs)) (length (commandBytes c bs)) ≡ false
 command-long c bs h = refuted _ (λ e. omega (arith, command-most c bs e))
+
+-- ---- what reading answers
+
+asked-back : (a : Asked) → answerBy A.Command A.Refused (askedSays a) ≡ a
+asked-back (A.Command c) = refl
+asked-back (A.Refused r) = ap A.Refused (refusal-back r)
+
+-- it is told by its number and its command
+pub asked-same : (a b : Asked) → askedSays a ≡ askedSays b → a ≡ b
+asked-same = same-by askedSays (answerBy A.Command A.Refused) asked-back
 
 -- ---- read back
 

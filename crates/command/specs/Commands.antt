@@ -6,13 +6,15 @@ use mathlib.Core.Bool.{cond}
 use mathlib.Core.List.{List, _++_}
 use lib.Dec.{ltb, eqb}
 use lib.ListN.{length, replicate, drop}
+use Rattle.numbers.specs.Refusals.{refusalNumber}
+use Rattle.numbers.specs.Came.{Came, took, refusedWith}
 use Rattle.numbers.specs.declared.Refusal.the-variants as R
 use Rattle.scalar.specs.Scalars.{Column, column, get, put}
 use Rattle.form.specs.Forms.{exactly}
 use Rattle.modulation.specs.Modulations.{configForm, configOf, configBytes, syncWord}
 use Rattle.form.specs.declared.Form.{Form}
 use Rattle.form.specs.declared.Form.the-variants as F
-use Rattle.kind.specs.Kinds.{PING, GET-INFO, SET-CONFIG, TX, RX-START, RX-STOP, isCommand}
+use Rattle.kind.specs.Kinds.{PING, GET-INFO, SET-CONFIG, TX, RX-START, RX-STOP, packetMax, isCommand}
 use Rattle.command.specs.declared.Command.{Command}
 use Rattle.command.specs.declared.Command.the-variants as C
 use Rattle.command.specs.declared.Asked.{Asked}
@@ -24,9 +26,6 @@ flags = column 0 1
 
 abbrev pub flagsSize : ℕ
 flagsSize = 1
-
-abbrev pub packetMax : ℕ
-packetMax = 255
 
 abbrev pub flagsMax : ℕ
 flagsMax = 1
@@ -68,6 +67,11 @@ readCommand kind p =
     cond (isCommand kind)
     (cond (exactly (commandForm kind p) (length p)) (A.Command (commandOf kind p)) (A.Refused R.Form))
     (A.Refused R.Type)
+
+-- what comes back: 01's number, and the command
+abbrev pub askedSays : Asked → Came Command
+askedSays (A.Command c) = took c
+askedSays (A.Refused r) = refusedWith (refusalNumber r)
 
 -- the type of a command
 abbrev pub commandKind : Command → ℕ

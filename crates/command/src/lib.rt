@@ -5,9 +5,10 @@ ghost use Prim.Native.Nat.{_≤_};
 ghost use lib.ListN.{length};
 ghost use Rattle.buffer.specs.Lay.{lay};
 ghost use Rattle.form.specs.Forms.{exactly};
-ghost use Rattle.command.specs.Commands.{commandForm, commandOf, commandBytes, commandKind, packetOf, readCommand, txBytes, txForm};
+ghost use Rattle.command.specs.Commands.{askedSays, commandForm, commandOf, commandBytes, commandKind, packetOf, readCommand, txBytes, txForm};
 use form::Form;
 use kind::GET_INFO;
+use kind::PACKET_MAX;
 use kind::PING;
 use kind::RX_START;
 use kind::RX_STOP;
@@ -17,11 +18,9 @@ use modulation::Modulation;
 use numbers::Refusal;
 
 // The bytes of a TX's flags, before its packet: P 6.4.
-const FLAGS_SIZE: usize = 1;
-// The longest packet.
-pub const PACKET_MAX: usize = 255;
+pub const FLAGS_SIZE: usize = 1;
 // The highest flags: bit 0 is skip_cad, and the rest is reserved.
-const FLAGS_MAX: u8 = 1;
+pub const FLAGS_MAX: u8 = 1;
 
 // A command. The bytes of variable length stay beside it, in the caller's memory: a TX's packet and
 // an FSK configuration's sync word.
@@ -42,7 +41,7 @@ pub enum Asked {
 
 // Reads a payload of some type as a command.
 pub fn read_command(kind: u8, payload: &[u8]) -> Asked
-    ensures { λ r. ⌜ r ≡ readCommand kind (now (payload .entry)) ⌝ }
+    ensures { λ r. ⌜ askedSays r ≡ askedSays (readCommand kind (now (payload .entry))) ⌝ }
 {
     if kind::is_command(kind) {
         if form::exactly(command_form(kind, payload), payload.len()) {

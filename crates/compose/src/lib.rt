@@ -3,6 +3,7 @@
 ghost use mathlib.Core.Path.{_≡_};
 ghost use mathlib.Core.Bool.{cond};
 ghost use lib.ListN.{length};
+ghost use Rattle.frame.specs.Writing.{writtenSays};
 ghost use Rattle.kind.specs.Kinds.{tagWrong};
 ghost use Rattle.command.specs.Commands.{commandBytes, commandKind};
 ghost use Rattle.answer.specs.Answers.{answerBytes, answerKind, answerName};
@@ -10,22 +11,23 @@ ghost use Rattle.writer.specs.Writing.{bodyAnswer, bodyLeft, writeAnswer, write
 use answer::Answer;
 use command::Command;
 use frame::Written;
+use info::INFO_SIZE;
+use kind::PACKET_MAX;
 use numbers::Refusal;
 use verdict::Kinds;
 
-// The longest bytes of variable length of any message: a packet.
-const BYTES_MAX: usize = 255;
-// The longest payload that these bytes may be put into: an OK to GET_INFO has 37 bytes beside the
-// uids.
-const MEMORY: usize = 292;
+// The longest payload that a packet's bytes may be put into, the longest of variable length: an OK to
+// GET_INFO, with its fields and one more before them.
+const MEMORY: usize = INFO_SIZE + 1 + PACKET_MAX;
 
 // Builds the body of a command, with its bytes of variable length.
 pub fn build_command(c: Command, tag: u16, bytes: &[u8], dst: &mut [u8]) -> Written
-    ensures { λ r. ⌜ r ≡ bodyAnswer Kinds.Commands (commandKind c) tag (commandBytes c (now (bytes .entry))) (length (now (dst .entry))) ⌝ }
+    ensures { λ r. ⌜ writtenSays r
+        ≡ writtenSays (bodyAnswer Kinds.Commands (commandKind c) tag (commandBytes c (now (bytes .entry))) (length (now (dst .entry)))) ⌝ }
     ensures { λ r. ⌜ now (dst .exit) ≡ bodyLeft Kinds.Commands (commandKind c) tag (commandBytes c (now (bytes .entry))) (now (dst .entry)) ⌝ }
 {
     let kind = command::command_kind(c);
-    if BYTES_MAX < bytes.len() {
+    if PACKET_MAX < bytes.len() {
         return too_long(kind, tag);
     }
     let mut memory = [0u8; MEMORY];
@@ -35,11 +37,12 @@ pub fn build_command(c: Command, tag: u16, bytes: &[u8], dst: &mut [u8]) -> Writ
 
 // Writes the frame of a command, with its bytes of variable length.
 pub fn write_command(c: Command, tag: u16, bytes: &[u8], dst: &mut [u8]) -> Written
-    ensures { λ r. ⌜ r ≡ writeAnswer Kinds.Commands (commandKind c) tag (commandBytes c (now (bytes .entry))) (length (now (dst .entry))) ⌝ }
+    ensures { λ r. ⌜ writtenSays r
+        ≡ writtenSays (writeAnswer Kinds.Commands (commandKind c) tag (commandBytes c (now (bytes .entry))) (length (now (dst .entry)))) ⌝ }
     ensures { λ r. ⌜ now (dst .exit) ≡ writeLeft Kinds.Commands (commandKind c) tag (commandBytes c (now (bytes .entry))) (now (dst .entry)) ⌝ }
 {
     let kind = command::command_kind(c);
-    if BYTES_MAX < bytes.len() {
+    if PACKET_MAX < bytes.len() {
         return too_long(kind, tag);
     }
     let mut memory = [0u8; MEMORY];
@@ -49,11 +52,12 @@ pub fn write_command(c: Command, tag: u16, bytes: &[u8], dst: &mut [u8]) -> Writ
 
 // Builds the body of an answer, with its bytes of variable length.
 pub fn build_answer(a: Answer, tag: u16, bytes: &[u8], dst: &mut [u8]) -> Written
-    ensures { λ r. ⌜ r ≡ bodyAnswer (Kinds.Answers (answerName a)) (answerKind a) tag (answerBytes a (now (bytes .entry))) (length (now (dst .entry))) ⌝ }
+    ensures { λ r. ⌜ writtenSays r
+        ≡ writtenSays (bodyAnswer (Kinds.Answers (answerName a)) (answerKind a) tag (answerBytes a (now (bytes .entry))) (length (now (dst .entry)))) ⌝ }
     ensures { λ r. ⌜ now (dst .exit) ≡ bodyLeft (Kinds.Answers (answerName a)) (answerKind a) tag (answerBytes a (now (bytes .entry))) (now (dst .entry)) ⌝ }
 {
     let kind = answer::answer_kind(a);
-    if BYTES_MAX < bytes.len() {
+    if PACKET_MAX < bytes.len() {
         return too_long(kind, tag);
     }
     let name = answer::answer_name(a);
@@ -64,11 +68,12 @@ pub fn build_answer(a: Answer, tag: u16, bytes: &[u8], dst: &mut [u8]) -> Writte
 
 // Writes the frame of an answer, with its bytes of variable length.
 pub fn write_answer(a: Answer, tag: u16, bytes: &[u8], dst: &mut [u8]) -> Written
-    ensures { λ r. ⌜ r ≡ writeAnswer (Kinds.Answers (answerName a)) (answerKind a) tag (answerBytes a (now (bytes .entry))) (length (now (dst .entry))) ⌝ }
+    ensures { λ r. ⌜ writtenSays r
+        ≡ writtenSays (writeAnswer (Kinds.Answers (answerName a)) (answerKind a) tag (answerBytes a (now (bytes .entry))) (length (now (dst .entry)))) ⌝ }
     ensures { λ r. ⌜ now (dst .exit) ≡ writeLeft (Kinds.Answers (answerName a)) (answerKind a) tag (answerBytes a (now (bytes .entry))) (now (dst .entry)) ⌝ }
 {
     let kind = answer::answer_kind(a);
-    if BYTES_MAX < bytes.len() {
+    if PACKET_MAX < bytes.len() {
         return too_long(kind, tag);
     }
     let name = answer::answer_name(a);

@@ -3,11 +3,11 @@
 use Prim.Native.Nat.{ℕ, _+_, _≤_, _<_}
 use mathlib.Core.Path.{_≡_, refl, sym, ap, _∙_}
 use mathlib.Core.List.{List, [], _++_}
-use native.Mathlib.Nat.{add-zero}
+use native.Mathlib.Nat.{zero-add, add-zero}
 use native.Mathlib.Omega.{arith}
 use borrow.Author.Tests.{lt-ltb, le-ltb}
 use lib.ListN.{length, length-append}
-use Rattle.numbers.specs.Numbers.{ROOM}
+use Rattle.numbers.specs.Numbers.{TAKEN, ROOM}
 use Rattle.buffer.proofs.Laws.{lay-none}
 use Rattle.device.specs.Messages.{Frame}
 use Rattle.device.specs.Events.{roomMin}
@@ -15,55 +15,103 @@ use Rattle.wire.specs.Wire.{sends}
 use Rattle.wire.proofs.Laws.{lay-after, sends-append, Sent}
 use Rattle.control.specs.declared.Device.{Device}
 use Rattle.control.specs.declared.Order.{Order}
+use Rattle.control.specs.declared.Order.the-variants.{Nothing}
+use Rattle.control.specs.declared.Taken.{Taken}
 use Rattle.control.specs.declared.Answer.{Answer}
-use Rattle.control.specs.Control.{Done, refused, within, says, answerOf, Gives}
+use Rattle.control.specs.Control.{Done, does, says, Out, taken, refused, within, doneAt, answerOf, answerNumbers, Gives, Tells, Answers}
 
--- an answer by its four parts, and what gives it
+-- what is done, by its three parts, and what gives it
+abbrev pub didWith : Device → ℕ → Order → Taken
+didWith d w q = record { device = d; written = w; order = q }
+
+-- an answer by its four parts
 abbrev pub answered : Device → ℕ → ℕ → Order → Answer
 answered d n w q = record { device = d; number = n; written = w; order = q }
 
-abbrev pub done : Device → ℕ → List Frame → Order → Done
-done d n fs q = record { next = d; number = n; said = fs; order = q }
-
 -- ---- nothing is said
 
--- the answer then has no byte more
-pub plain : (d : Device) (n at : ℕ) (q : Order) {r : Answer} → r ≡ answered d n at q → r ≡ answerOf at (done d n [] q)
+-- then no byte more is written
+pub plain : (d : Device) (at : ℕ) (q : Order) {r : Taken} → r ≡ didWith d at q → r ≡ doneAt at (does d [] q)
 unfolding sends
-plain d n at q e = rw add-zero e
+plain d at q e = rw add-zero e
 
 -- the output stays
-pub silent : (x : Done) (o : List ℕ) (at : ℕ) {r : Answer} → x .said ≡ [] → r ≡ answerOf at x → Gives x o at r o
+pub silent : (x : Done) (o : List ℕ) (at : ℕ) {r : Taken} → x .said ≡ [] → r ≡ doneAt at x → Gives x o at r o
 unfolding sends
-silent x o at s e = record { answers = e; writes = rw s (sym (lay-none at o)) }
+silent x o at s e = record { does = e; writes = rw s (sym (lay-none at o)) }
 
-pub quiet : (d : Device) (n : ℕ) (q : Order) (o : List ℕ) (at : ℕ) {r : Answer} → r ≡ answered d n at q → Gives (done d n [] q) o at r o
-quiet d n q o at e = silent (done d n [] q) o at refl (plain d n at q e)
+pub quiet : (d : Device) (q : Order) (o : List ℕ) (at : ℕ) {r : Taken} → r ≡ didWith d at q → Gives (does d [] q) o at r o
+quiet d q o at e = silent (does d [] q) o at refl (plain d at q e)
 
 -- ---- frames are said
 
 -- and that is all
-pub spoken : (d : Device) (n : ℕ) (q : Order) {fs : List Frame} {o o1 : List ℕ} {at w : ℕ} {r : Answer} → Sent fs o at w o1
-    → r ≡ answered d n w q → Gives (done d n fs q) o at r o1
-spoken d n q s e = record { answers = e ∙ ap (λ (w : ℕ). answered d n w q) (s .ends); writes = s .lays }
+pub spoken : (d : Device) (q : Order) {fs : List Frame} {o o1 : List ℕ} {at w : ℕ} {r : Taken} → Sent fs o at w o1
+    → r ≡ didWith d w q → Gives (does d fs q) o at r o1
+spoken d q s e = record { does = e ∙ ap (λ (w : ℕ). didWith d w q) (s .ends); writes = s .lays }
 
 -- and then what x gives
-pub then : {x : Done} {fs : List Frame} {o o1 o2 : List ℕ} {at w : ℕ} {r : Answer} → Sent fs o at w o1 → Gives x o1 w r o2 → Gives (says fs x) o at r o2
+pub then : {x : Done} {fs : List Frame} {o o1 o2 : List ℕ} {at w : ℕ} {r : Taken} → Sent fs o at w o1 → Gives x o1 w r o2 → Gives (says fs x) o at r o2
 then {x} {fs} {o} {at = at} {w} s g =
     let n : w + length (sends (x .said)) ≡ at + length (sends (fs ++ x .said)) = rw (sends-append, length-append) (omega (arith, s .ends)) in
     record {
-      answers = g .answers ∙ ap (λ (k : ℕ). answered (x .next) (x .number) k (x .order)) n;
+      does = g .does ∙ ap (λ (k : ℕ). didWith (x .next) k (x .order)) n;
       writes = g .writes ∙ rw (s .lays, s .ends, sends-append) (lay-after at (sends fs) (sends (x .said)) o);
     }
 
 -- ---- what is given is given by another name
 
-pub gives : {x : Done} (y : Done) {o o' : List ℕ} {at : ℕ} {r : Answer} → x ≡ y → Gives y o at r o' → Gives x o at r o'
+pub gives : {x : Done} (y : Done) {o o' : List ℕ} {at : ℕ} {r : Taken} → x ≡ y → Gives y o at r o' → Gives x o at r o'
 gives y e g = rw e g
+
+-- ---- answers
+
+-- an answer tells all that it is
+pub tells : (x : Out) {r : Answer} → r ≡ answerOf x → Tells x r
+tells x e = record { state = ap (λ (a : Answer). a .device) e; numbers = ap answerNumbers e }
+
+-- a refusal, and that it leaves the output
+pub tells-refusal : (n : ℕ) (d : Device) {r : Answer} → r ≡ answered d n 0 Nothing → Tells (refused n d) r
+unfolding sends
+tells-refusal n d e = tells (refused n d) e
+
+pub refusal : (n : ℕ) (d : Device) (o : List ℕ) {r : Answer} → r ≡ answered d n 0 Nothing → Answers (refused n d) o r o
+unfolding sends
+refusal n d o e = record { tells = tells-refusal n d e; writes = sym (lay-none 0 o) }
+
+-- an answer of which nothing is said leaves it
+pub silently : (x : Out) (o : List ℕ) {r : Answer} → x .said ≡ [] → Tells x r → Answers x o r o
+unfolding sends
+silently x o s t = record { tells = t; writes = rw s (sym (lay-none 0 o)) }
+
+-- what is done by one that is taken
+pub tells-taken : (x : Done) {t : Taken} {r : Answer} → t ≡ doneAt 0 x → r ≡ answered (t .device) TAKEN (t .written) (t .order) → Tells (taken x) r
+tells-taken x e f = tells (taken x) (rw zero-add at (rw e at f))
+
+pub takes : (x : Done) {o o' : List ℕ} {t : Taken} {r : Answer} → Gives x o 0 t o' → r ≡ answered (t .device) TAKEN (t .written) (t .order)
+    → Answers (taken x) o r o'
+takes x g f = record { tells = tells-taken x (g .does) f; writes = g .writes }
+
+-- frames are said, and that is all
+pub says-all : (d : Device) (q : Order) {fs : List Frame} {o o' : List ℕ} {w : ℕ} {r : Answer} → Sent fs o 0 w o' → r ≡ answered d TAKEN w q
+    → Answers (taken (does d fs q)) o r o'
+says-all d q {fs} s e = takes (does d fs q) {t = didWith d _ q} (spoken d q s refl) e
+
+-- where that says nothing
+pub tells-quiet : (d : Device) (q : Order) {r : Answer} → r ≡ answered d TAKEN 0 q → Tells (taken (does d [] q)) r
+unfolding sends
+tells-quiet d q e = tells (taken (does d [] q)) e
+
+-- an answer is given by another name
+pub told-by : {x : Out} (y : Out) {r : Answer} → x ≡ y → Tells y r → Tells x r
+told-by y e g = rw e g
+
+pub answers : {x : Out} (y : Out) {o o' : List ℕ} {r : Answer} → x ≡ y → Answers y o r o' → Answers x o r o'
+answers y e g = rw e g
 
 -- ---- the room
 
-module _ (room : ℕ) (d : Device) (x : Done) where
+module _ (room : ℕ) (d : Device) (x : Out) where
   pub entered : roomMin ≤ room → within room d x ≡ x
   unfolding within
   entered h = simp (le-ltb room roomMin h)

@@ -4,14 +4,14 @@
 use Prim.Native.Nat.{ℕ, _+_}
 use mathlib.Core.Path.{_≡_}
 use mathlib.Core.Bool.{Bool, true, false, cond, _||_}
-use mathlib.Core.List.{List, [], _++_}
+use mathlib.Core.List.{List, [], _∷_, _++_}
 use lib.Dec.{ltb}
 use lib.ListN.{length}
 use Rattle.numbers.specs.Numbers.{TAKEN, ROOM}
 use Rattle.buffer.specs.Lay.{lay}
 use Rattle.device.specs.State.{RadioOf}
 use Rattle.device.specs.State as S
-use Rattle.device.specs.Messages.{Frame}
+use Rattle.device.specs.Messages.{Frame, yes}
 use Rattle.device.specs.Events.{roomMin}
 use Rattle.device.specs.Events as E
 use Rattle.wire.specs.Wire.{sends}
@@ -24,7 +24,8 @@ use Rattle.control.specs.declared.Air.{Air}
 use Rattle.control.specs.declared.Inbox.{Inbox}
 use Rattle.control.specs.declared.Device.{Device}
 use Rattle.control.specs.declared.Order.{Order}
-use Rattle.control.specs.declared.Order.the-variants.{Nothing, Standby, Receive}
+use Rattle.control.specs.declared.Order.the-variants.{Nothing, Standby, Configure, Transmit, Receive}
+use Rattle.control.specs.declared.Taken.{Taken}
 use Rattle.control.specs.declared.Answer.{Answer}
 
 -- ---- the state
@@ -99,36 +100,82 @@ stalled a = a .pending || runs? (a .radio)
 
 -- ---- what an event gives
 
--- the next state, the number, the frames written and the radio order
+-- what is done by one that is taken: the next state, the frames written and the radio order
 pub record Done : Type 0 where
+  pub next : Device
+  pub said : List Frame
+  pub order : Order
+
+abbrev pub does : Device → List Frame → Order → Done
+does d fs o = record { next = d; said = fs; order = o }
+
+-- frames first, and then what x gives
+abbrev pub says : List Frame → Done → Done
+says fs x = does (x .next) (fs ++ x .said) (x .order)
+
+-- what any is answered with: the number too
+pub record Out : Type 0 where
   pub next : Device
   pub number : ℕ
   pub said : List Frame
   pub order : Order
 
-abbrev pub taken : Device → List Frame → Order → Done
-taken d fs o = record { next = d; number = TAKEN; said = fs; order = o }
+abbrev pub taken : Done → Out
+taken x = record { next = x .next; number = TAKEN; said = x .said; order = x .order }
 
 -- a refusal writes nothing, orders nothing and leaves the state
-abbrev pub refused : ℕ → Device → Done
+abbrev pub refused : ℕ → Device → Out
 refused n d = record { next = d; number = n; said = []; order = Nothing }
 
 -- ROOM comes before all else
-unfoldable pub within : ℕ → Device → Done → Done
+unfoldable pub within : ℕ → Device → Out → Out
 within room d x = cond (ltb room roomMin) (refused ROOM d) x
 
--- frames first, and then what x gives
-abbrev pub says : List Frame → Done → Done
-says fs x = record { next = x .next; number = x .number; said = fs ++ x .said; order = x .order }
+-- ---- the answer of the code
 
--- the answer of the code, where what x writes begins at index `at` of the output
-abbrev pub answerOf : ℕ → Done → Answer
-answerOf at x = record { device = x .next; number = x .number; written = at + length (sends (x .said)); order = x .order }
+-- what the code has done by x, where what x writes begins at index `at` of the output
+abbrev pub doneAt : ℕ → Done → Taken
+doneAt at x = record { device = x .next; written = at + length (sends (x .said)); order = x .order }
 
--- The contract of what writes: the answer is x's, and the output is as it was but for x's frames, which stand in it from index `at` on.
-pub record Gives (x : Done) (o : List ℕ) (at : ℕ) (r : Answer) (o' : List ℕ) : Type 0 where
-  pub answers : r ≡ answerOf at x
+abbrev pub answerOf : Out → Answer
+answerOf x = record { device = x .next; number = x .number; written = length (sends (x .said)); order = x .order }
+
+-- an order's number, as callers that know no enums have it, and its values: where its bytes stand in the memory of commands, how many they are, LDRO, and
+-- whether the radio listens first
+abbrev pub orderNumber : Order → ℕ
+orderNumber Nothing = 0
+orderNumber Standby = 1
+orderNumber (Configure at n ldro) = 2
+orderNumber (Transmit at n listen) = 3
+orderNumber Receive = 4
+
+abbrev pub orderValues : Order → List ℕ
+orderValues Nothing = 0 ∷ 0 ∷ 0 ∷ 0 ∷ []
+orderValues Standby = 0 ∷ 0 ∷ 0 ∷ 0 ∷ []
+orderValues (Configure at n ldro) = at ∷ n ∷ yes ldro ∷ 0 ∷ []
+orderValues (Transmit at n listen) = at ∷ n ∷ 0 ∷ yes listen ∷ []
+orderValues Receive = 0 ∷ 0 ∷ 0 ∷ 0 ∷ []
+
+-- an answer in numbers: 01's number, the count of bytes written, the order and its values
+unfoldable pub answerNumbers : Answer → List ℕ
+answerNumbers a = a .number ∷ a .written ∷ orderNumber (a .order) ∷ orderValues (a .order)
+
+-- ---- the contracts
+
+-- of what an event does that is taken: what r says is x's, and the output is as it was but for x's frames, which stand in it from index `at` on
+pub record Gives (x : Done) (o : List ℕ) (at : ℕ) (r : Taken) (o' : List ℕ) : Type 0 where
+  pub does : r ≡ doneAt at x
   pub writes : o' ≡ lay at (sends (x .said)) o
+
+-- of an event that is lent no output: the next state and the answer in numbers are x's
+pub record Tells (x : Out) (r : Answer) : Type 0 where
+  pub state : r .device ≡ x .next
+  pub numbers : answerNumbers r ≡ answerNumbers (answerOf x)
+
+-- of one that is: and the output is as it was but for x's frames at its start
+pub record Answers (x : Out) (o : List ℕ) (r : Answer) (o' : List ℕ) : Type 0 where
+  pub tells : Tells x r
+  pub writes : o' ≡ lay 0 (sends (x .said)) o
 
 -- ---- the order when there is nothing to send
 

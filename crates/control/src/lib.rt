@@ -2,10 +2,12 @@
 ghost use mathlib.Core.Path.{_≡_};
 ghost use Rattle.control.specs.Control.{powerUp, withLink, withAir, withInbox, withRadio, deaf, stalled, idle};
 ghost use Rattle.control.specs.Control as C;
+ghost use Rattle.numbers.specs.Numbers as N;
+use frame::FRAME_MAX;
 use numbers::TAKEN;
 
 // The least output that an event takes, the longest frame: 01 "Numbers that come back", ROOM.
-pub const ROOM_MIN: usize = 283;
+pub const ROOM_MIN: usize = FRAME_MAX;
 
 // UNCONFIGURED, or the modulation of the configuration in force. Of the rest of it nothing is
 // needed any more.
@@ -72,8 +74,15 @@ pub enum Order {
     Receive,
 }
 
-// What an event answers: the next state, 01's number, how many bytes of the output were written,
-// and the order.
+// What an event does that is taken: the next state, how many bytes of the output were written, and
+// the order.
+pub struct Taken {
+    pub device: Device,
+    pub written: usize,
+    pub order: Order,
+}
+
+// What an event answers: 01's number too.
 pub struct Answer {
     pub device: Device,
     pub number: u8,
@@ -110,15 +119,35 @@ pub fn power_up() -> Device
     }
 }
 
-// An event that is taken, with so many bytes written.
-pub fn accept(d: Device, written: usize, order: Order) -> Answer
-    ensures { λ r. ⌜ r ≡ record { device = d; number = 0; written = written; order = order } ⌝ }
+// What is done, with so many bytes written.
+pub fn done(d: Device, written: usize, order: Order) -> Taken
+    ensures { λ r. ⌜ r ≡ record { device = d; written = written; order = order } ⌝ }
+{
+    Taken {
+        device: d,
+        written,
+        order,
+    }
+}
+
+// An event that is taken, by what it does.
+pub fn take(t: Taken) -> Answer
+    ensures { λ r. ⌜ r ≡ record { device = t .device; number = N.TAKEN; written = t .written; order = t .order } ⌝ }
+{
+    let device = t.device;
+    let order = t.order;
+    accept(device, t.written, order)
+}
+
+// The same, part by part.
+pub fn accept(d: Device, count: usize, given: Order) -> Answer
+    ensures { λ r. ⌜ r ≡ record { device = d; number = N.TAKEN; written = count; order = given } ⌝ }
 {
     Answer {
         device: d,
         number: TAKEN,
-        written,
-        order,
+        written: count,
+        order: given,
     }
 }
 
@@ -135,23 +164,23 @@ pub fn refuse(d: Device, number: u8) -> Answer
 }
 
 // A state with a new link.
-pub fn with_link(d: Device, link: Link) -> Device
-    ensures { λ r. ⌜ r ≡ withLink d link ⌝ }
+pub fn with_link(d: Device, next: Link) -> Device
+    ensures { λ r. ⌜ r ≡ withLink d next ⌝ }
 {
     let mode = d.mode;
     let air = d.air;
     let inbox = d.inbox;
     Device {
         mode,
-        link,
+        link: next,
         air,
         inbox,
     }
 }
 
 // A state with a new radio's side.
-pub fn with_air(d: Device, air: Air) -> Device
-    ensures { λ r. ⌜ r ≡ withAir d air ⌝ }
+pub fn with_air(d: Device, next: Air) -> Device
+    ensures { λ r. ⌜ r ≡ withAir d next ⌝ }
 {
     let mode = d.mode;
     let link = d.link;
@@ -159,14 +188,14 @@ pub fn with_air(d: Device, air: Air) -> Device
     Device {
         mode,
         link,
-        air,
+        air: next,
         inbox,
     }
 }
 
 // A state with a new reception.
-pub fn with_inbox(d: Device, inbox: Inbox) -> Device
-    ensures { λ r. ⌜ r ≡ withInbox d inbox ⌝ }
+pub fn with_inbox(d: Device, next: Inbox) -> Device
+    ensures { λ r. ⌜ r ≡ withInbox d next ⌝ }
 {
     let mode = d.mode;
     let link = d.link;
@@ -175,7 +204,7 @@ pub fn with_inbox(d: Device, inbox: Inbox) -> Device
         mode,
         link,
         air,
-        inbox,
+        inbox: next,
     }
 }
 

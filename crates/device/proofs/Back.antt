@@ -19,14 +19,14 @@ use Rattle.scalar.proofs.Laws.{number-le}
 use Rattle.frame.specs.Body.{overhead}
 use Rattle.frame.specs.Writing.{frameAnswer}
 use Rattle.frame.specs.declared.Written.the-variants as W
-use Rattle.kind.specs.Kinds.{isCommand, tagWrong}
+use Rattle.kind.specs.Kinds.{isCommand, tagWrong, packetMax}
 use Rattle.form.proofs.Laws.{exactly-size}
 use Rattle.modulation.specs.Fsk.{syncWordMax}
 use Rattle.modulation.specs.Modulations.{configForm, configBytes}
 use Rattle.modulation.specs.Ranges.{ModulationIn}
 use Rattle.modulation.proofs.Laws.{wordLen, word-form}
 use Rattle.info.proofs.Laws.{info-form-of}
-use Rattle.rx.specs.Rx.{rxMax, rxBytes}
+use Rattle.rx.specs.Rx.{rxBytes}
 use Rattle.rx.specs.Ranges.{RxIn}
 use Rattle.rx.proofs.Laws.{length-rx, rx-form-back}
 use Rattle.answer.specs.Answers.{configuredForm, configuredBytes, txDoneForm, txDoneMax, txDoneBytes, answerForm, answerKind, answerName, answerBytes}
@@ -144,7 +144,7 @@ yes-small : (v : Bool) → yes v ≤ 1
 yes-small true = le-refl 1
 yes-small false = zero-le
 
-pub rx-sent : (p : Packet) → PacketIn p → length (p .bytes) ≤ rxMax → (drops : ℕ) → drops ≤ dropsMax → Sendable (rx p drops)
+pub rx-sent : (p : Packet) → PacketIn p → length (p .bytes) ≤ packetMax → (drops : ℕ) → drops ≤ dropsMax → Sendable (rx p drops)
 unfolding tagWrong isCommand answerForm answerBytes
 rx-sent p i l drops d =
     let v : RxIn (rxValue p drops) =

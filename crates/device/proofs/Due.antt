@@ -16,7 +16,7 @@ use Rattle.scalar.specs.Scalars.{le, number}
 use Rattle.scalar.specs.Bytes.{Each}
 use Rattle.scalar.proofs.Bytes.{each-append}
 use Rattle.scalar.proofs.Laws.{number-le}
-use Rattle.kind.specs.Kinds.{SET-CONFIG, GET-INFO, ERR, RX}
+use Rattle.kind.specs.Kinds.{SET-CONFIG, GET-INFO, ERR, RX, ERADIO, EFRAME}
 use Rattle.rx.specs.Rx.{rxOf, rxBytes}
 use Rattle.rx.specs.declared.Rx.{Rx}
 use Rattle.answer.specs.Answers.{answerKind, answerBytes}
@@ -24,7 +24,7 @@ use Rattle.answer.specs.declared.Answer.the-variants as A
 use Rattle.board.specs.Board.{Board, infoOf, uidsOf}
 use Rattle.device.specs.State.{Setting, Tx, Radio, free, listening, onAir, orphan, configuring, Packet, Air}
 use Rattle.device.specs.State.{Event, byte, tick, clear, busy, sent, configured, fault, packet, request, disconnect, nothing}
-use Rattle.device.specs.Messages.{Frame, frame, Message, message, payload, seen, EFRAME, ERADIO}
+use Rattle.device.specs.Messages.{Frame, frame, Message, message, payload, seen}
 use Rattle.device.specs.Frames.{Received, damaged, command}
 use Rattle.device.specs.Reading.{frameIn, tagged, brings}
 use Rattle.device.specs.Tally.{Tally, ifTaken}

@@ -11,14 +11,13 @@ use borrow.Author.Tests.{le-leb, lt-leb, ne-eqb}
 use lib.Dec.{leb, eqb, leb·suc-suc, eqb·suc-zero}
 use lib.ListN.{length}
 use Rattle.scalar.specs.Scalars.{get}
-use Rattle.kind.specs.Kinds.{isCommand}
+use Rattle.kind.specs.Kinds.{isCommand, EPARAM, ELENGTH, EMODULATION, EUNKNOWN-CMD, EBUSY}
 use Rattle.modulation.specs.Lora.{loraSize}
 use Rattle.modulation.specs.Modulations.{LORA, modulation-id, configOf}
 use Rattle.command.specs.Commands.{flags}
 use Rattle.board.specs.Board.{Board}
 use Rattle.board.specs.Params.{paramsGood}
 use Rattle.device.specs.State.{Config, Setting, Tx, Radio, free, listening, onAir, orphan, configuring, air, tagsOf, open#}
-use Rattle.device.specs.Messages.{EPARAM, ELENGTH, EMODULATION, EUNKNOWN-CMD, EBUSY}
 use Rattle.device.specs.Frames.{objects, unconfigured}
 use Rattle.device.specs.Due.{payloadError, valueError, commandError, opened}
 

@@ -11,16 +11,16 @@ use native.Mathlib.Omega.{arith}
 use native.Mathlib.Nat.{le-refl}
 use lib.ListN.{length, length-append, length-map}
 use lib.Dec.{ltb, eqb}
-use Rattle.kind.specs.Kinds.{SET-CONFIG, TX, RX-START, RX-STOP, GET-INFO, isCommand}
+use Rattle.kind.specs.Kinds.{SET-CONFIG, TX, RX-START, RX-STOP, GET-INFO, isCommand, ENOTCONFIGURED, EUNKNOWN-CMD, ERADIO, TRANSMITTED, CANCELLED}
 use Rattle.scalar.specs.Scalars.{get}
 use Rattle.command.specs.Commands.{flags}
 use Rattle.board.specs.Board.{Board}
 use Rattle.device.specs.State.{Config, Setting, Tx, Radio, free, listening, onAir, orphan, configuring, Packet, Inbox, State, link, air, state, deaf, held, tagsOf, open#, runs?, stalled}
 use Rattle.device.specs.State.{Event, byte, tick, clear, busy, sent, configured, fault, packet, request, disconnect, Input, Order, nothing, standby, configure, transmit, receive, free?}
-use Rattle.device.specs.Messages.{Frame, Message, ok, okInfo, err, txDone, ERADIO, EUNKNOWN-CMD, ENOTCONFIGURED, TRANSMITTED, CANCELLED, seen}
+use Rattle.device.specs.Messages.{Frame, Message, ok, okInfo, err, txDone, seen}
 use Rattle.device.specs.Frames.{Received, damaged, command, objection, settingOf, txOf}
 use Rattle.device.specs.Reading.{brings}
-use Rattle.device.specs.Events.{Out, changed, next, refused, begun, listens, idle, says, onTx, onSet, onCommand, turned, unless, onReceived, onByte, onPacket, onRequest, onEvent, endSession, unlessRoom, step, roomMin, ticksMax}
+use Rattle.device.specs.Events.{Out, taken, changed, next, refused, begun, listens, idle, says, onTx, onSet, onCommand, turned, unless, onReceived, onByte, onPacket, onRequest, onEvent, endSession, unlessRoom, step, roomMin, ticksMax}
 use Rattle.device.specs.Tally.{sessionEnded, afterTime, withTxs, radioReported, Entry, Tally, tally, ifTaken, afterTaken, afterOrder, unlessConfigure, settled, noted, dones, newlyReported}
 use Rattle.device.specs.Demands.{Closed, was-reported, was-dropped, closed, outcome?}
 use Rattle.device.proofs.Laws.{run-brings, atRadio, inQueue, past-radio, past-reported, past-dropped, past-started, past-newly, closed-append, queue-radio, queue-reported, queue-dropped, queue-more, length-queue, newly-more, newly-self, newly-reported, newly-dropped, reportedOf, all-reported, none-reported, dones-append, dones-cancelled, no-err}
@@ -197,7 +197,7 @@ module _ (b : Board) (c : List Closed) where
       abbrev was : Option Setting → List Tx → State
       was p ws = state k (link true n rs) (air (begun v t) ws p) i
 
-      ended-next : (p : Option Setting) (ws : List Tx) → Ends e p (was p ws) → Keeps c (was p ws) e (next p ws ms (was p ws))
+      ended-next : (p : Option Setting) (ws : List Tx) → Ends e p (was p ws) → Keeps c (was p ws) e (taken (next p ws ms (was p ws)))
       ended-next none [] h =
           keeps-by (was-reported t ∷ []) (h _ _ ∙ simp laws) is-free wrote-one (simp laws) (omega (arith, begun-open v t [])) (λ y. one (outcome? e))
       ended-next none (w ∷ ws) h =
@@ -212,7 +212,7 @@ module _ (b : Board) (c : List Closed) where
       abbrev idles : Option Setting → State
       idles p = state k (link v n rs) (air r [] p) i
 
-      idle-next : (p : Option Setting) → Ends e p (idles p) → runs? r ≡ false → v ≡ true → Keeps c (idles p) e (next p [] ms (idles p))
+      idle-next : (p : Option Setting) → Ends e p (idles p) → runs? r ≡ false → v ≡ true → Keeps c (idles p) e (taken (next p [] ms (idles p)))
       idle-next none h q y = same c _ e _ (h _ _ ∙ rw (empty, q, and-false v) (simp laws)) (rw empty) is-free wrote-none (λ z. omega arith)
       idle-next (some d) h q y = same c _ e _ (h _ _ _ ∙ rw (empty, y) (simp laws)) (rw empty) is-configuring (rw (append-nil, wrote-none)) (λ z. omega arith)
 
@@ -269,7 +269,7 @@ module _ (b : Board) (c : List Closed) where
       Drops r ws p k =
           ((fs : List Frame) (o : Order) → ((t : Tally) → afterOrder o t ≡ t)
           → afterTaken e fs o (tallyOf c (state k (link true n rs) (air r ws p) i)) ≡ sessionEnded (tallyOf c (state k (link true n rs) (air r ws p) i)))
-          → Keeps c (state k (link true n rs) (air r ws p) i) e (endSession r)
+          → Keeps c (state k (link true n rs) (air r ws p) i) e (taken (endSession r))
 
       kept-end : {r : Radio} {ws : List Tx} {p : Option Setting} {k : Option Config} → Shape r ws p true k → Drops r ws p k
       kept-end is-free h = same c _ e _ (h _ _ (λ t. refl) ∙ simp laws) refl is-free refl (λ z. rw no)
@@ -307,7 +307,7 @@ module _ (b : Board) (c : List Closed) where
   kept-packet p true s q = same c s (packet p) _ refl refl q refl (λ z. refl)
   kept-packet p false s q = refusal s (packet p) 2 q
 
-  kept-request : (ps : List Packet) (s : State) → Shaped s → Keeps c s request (onRequest ps s)
+  kept-request : (ps : List Packet) (s : State) → Shaped s → Keeps c s request (taken (onRequest ps s))
   kept-request [] s q = same c s request _ refl refl q refl (λ z. refl)
   kept-request (p ∷ ps) s q = same c s request _ refl refl q refl (λ z. refl)
 
@@ -335,7 +335,7 @@ module _ (b : Board) (c : List Closed) where
 
     -- an answer of one message that moves no TX
     said : (f : Received) (m : Message) (o : Order) (j : Inbox) {x : Radio} {ws : List Tx} {v : Bool} {k : Option Config} → Shape x ws none v k → runs? x ≡ false
-        → ((t : Tally) → afterOrder o (noted f (seen m ∷ []) t) ≡ t) → dones (seen m ∷ []) ≡ [] → Framed f (old x ws v k) (says m o (new x ws k j))
+        → ((t : Tally) → afterOrder o (noted f (seen m ∷ []) t) ≡ t) → dones (seen m ∷ []) ≡ [] → Framed f (old x ws v k) (taken (says m o (new x ws k j)))
     said f m o j {v = v} q h a w e = same c _ (byte 0) _ (rw (e, a, h, and-false v)) refl (awake q) w (λ z. refl)
 
     -- an ERR moves none
@@ -357,7 +357,7 @@ module _ (b : Board) (c : List Closed) where
     no-tx s kind p h e o = never (not (isCommand kind)) EUNKNOWN-CMD ENOTCONFIGURED (rw (h, e) at o)
 
     was-tx : (kind t : ℕ) (p : List ℕ) → eqb kind TX ≡ true → {x : Radio} {ws : List Tx} {v : Bool} {k : Option Config} → Shape x ws none v k → runs? x ≡ false
-        → objection b (new x ws k i) kind p ≡ none → Framed (command kind t p) (old x ws v k) (onTx (txOf t p) x (new x ws k i))
+        → objection b (new x ws k i) kind p ≡ none → Framed (command kind t p) (old x ws v k) (taken (onTx (txOf t p) x (new x ws k i)))
     was-tx kind t p y (is-free {k = k}) h o e =
         keeps-by [] (rw (e, y) (simp laws)) (begun-shape (listens k (get flags p)) t) refl (simp laws) (omega arith) (λ z. omega arith)
     was-tx kind t p y (is-listening {t = u} {ws = ws}) h o e =
@@ -369,7 +369,7 @@ module _ (b : Board) (c : List Closed) where
     was-tx kind t p y is-configuring h o e = absurd (true≢false h)
 
     was-set : (kind t : ℕ) (p : List ℕ) → eqb kind TX ≡ false → eqb kind SET-CONFIG ≡ true → {x : Radio} {ws : List Tx} {v : Bool} {k : Option Config} → Shape x ws none v k
-        → runs? x ≡ false → Framed (command kind t p) (old x ws v k) (onSet (settingOf t p) x (new x ws k deaf))
+        → runs? x ≡ false → Framed (command kind t p) (old x ws v k) (taken (onSet (settingOf t p) x (new x ws k deaf)))
     was-set kind t p y z is-free h e = same c _ (byte 0) _ (rw (e, y, z) (simp laws)) refl is-configuring refl (λ u. refl)
     was-set kind t p y z (is-listening {t = u} {ws = ws}) h e =
         keeps-by (was-reported u ∷ map was-reported (tagsOf ws)) (rw (e, y, z, no-err (tagsOf ws)) (simp laws)) is-configuring (simp laws) (simp laws) (omega (arith, length-map (tagsOf ws) was-reported)) (λ q. omega arith)
@@ -385,14 +385,15 @@ module _ (b : Board) (c : List Closed) where
 
     module _ (kind t : ℕ) (p : List ℕ) (y : eqb kind TX ≡ false) (z : eqb kind SET-CONFIG ≡ false)
         {x : Radio} {ws : List Tx} {v : Bool} {k : Option Config} (q : Shape x ws none v k) (h : runs? x ≡ false) where
-      was-turned : (on : Bool) → Framed (command kind t p) (old x ws v k) (turned on t (new x ws k i))
+      was-turned : (on : Bool) → Framed (command kind t p) (old x ws v k) (taken (turned on t (new x ws k i)))
       was-turned on = said _ _ _ _ q h (λ u. rw (y, z) (unseen (free? x && changed on (i .receiving)) on u)) refl
 
-      was-asked : (m : Message) → dones (seen m ∷ []) ≡ [] → Framed (command kind t p) (old x ws v k) (says m nothing (new x ws k i))
+      was-asked : (m : Message) → dones (seen m ∷ []) ≡ [] → Framed (command kind t p) (old x ws v k) (taken (says m nothing (new x ws k i)))
       was-asked m w = said _ m nothing i q h (λ u. rw (y, z)) w
 
       others : (u₁ u₂ u₃ : Bool) → Framed (command kind t p) (old x ws v k)
-          (cond u₁ (turned true t (new x ws k i)) (cond u₂ (turned false t (new x ws k i)) (cond u₃ (says (okInfo b t) nothing (new x ws k i)) (says (ok t) nothing (new x ws k i)))))
+          (taken (cond u₁ (turned true t (new x ws k i)) (cond u₂ (turned false t (new x ws k i))
+          (cond u₃ (says (okInfo b t) nothing (new x ws k i)) (says (ok t) nothing (new x ws k i))))))
       others true u₂ u₃ = was-turned true
       others false true u₃ = was-turned false
       others false false true = was-asked (okInfo b t) refl
@@ -400,23 +401,23 @@ module _ (b : Board) (c : List Closed) where
 
     carried : (kind t : ℕ) (p : List ℕ) (u w : Bool) → eqb kind TX ≡ u → eqb kind SET-CONFIG ≡ w
         → {x : Radio} {ws : List Tx} {v : Bool} {k : Option Config} → Shape x ws none v k → runs? x ≡ false → objection b (new x ws k i) kind p ≡ none
-        → Framed (command kind t p) (old x ws v k) (onCommand b kind t p (new x ws k i))
+        → Framed (command kind t p) (old x ws v k) (taken (onCommand b kind t p (new x ws k i)))
     carried kind t p true w y z q h o = rw y (was-tx kind t p y q h o)
     carried kind t p false true y z q h o = rw (y, z) (was-set kind t p y z q h)
     carried kind t p false false y z q h o = rw (y, z) (others kind t p y z q h (eqb kind RX-START) (eqb kind RX-STOP) (eqb kind GET-INFO))
 
     answered : (kind t : ℕ) (p : List ℕ) (o : Option ℕ) {x : Radio} {ws : List Tx} {v : Bool} {k : Option Config} → Shape x ws none v k → runs? x ≡ false
-        → objection b (new x ws k i) kind p ≡ o → Framed (command kind t p) (old x ws v k) (unless o b kind t p (new x ws k i))
+        → objection b (new x ws k i) kind p ≡ o → Framed (command kind t p) (old x ws v k) (taken (unless o b kind t p (new x ws k i)))
     answered kind t p (some code) q h e = said _ _ nothing i q h (err-noted kind t code t p) refl
     answered kind t p none q h e = carried kind t p _ _ refl refl q h e
 
     kept-received : (f : Received) {x : Radio} {ws : List Tx} {v : Bool} {k : Option Config} → Shape x ws none v k → runs? x ≡ false
-        → Framed f (old x ws v k) (onReceived b f (new x ws k i))
+        → Framed f (old x ws v k) (taken (onReceived b f (new x ws k i)))
     kept-received damaged q h = said damaged _ nothing i q h (λ t. refl) refl
     kept-received (command kind t p) q h = answered kind t p _ q h refl
 
   kept-taken : (m n : ℕ) (rs : List ℕ) (i : Inbox) {x : Radio} {ws : List Tx} {v : Bool} {k : Option Config} → Shape x ws none v k → runs? x ≡ false
-      → Keeps c (state k (link v n rs) (air x ws none) i) (byte m) (onByte b m (state k (link v n rs) (air x ws none) i))
+      → Keeps c (state k (link v n rs) (air x ws none) i) (byte m) (taken (onByte b m (state k (link v n rs) (air x ws none) i)))
   kept-taken zero n [] i q h = same c _ (byte 0) _ refl refl q refl (λ z. refl)
   kept-taken zero n (r ∷ rs) i q h = kept-received n r rs i _ q h (sym (run-brings (r ∷ rs)))
   kept-taken (suc m) n rs i q h = same c _ (byte (suc m)) _ refl refl q refl (λ z. refl)

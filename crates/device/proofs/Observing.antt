@@ -11,16 +11,16 @@ use native.Mathlib.Omega.{arith}
 use lib.Dec.{ltb, eqb}
 use lib.ListN.{length}
 use Rattle.scalar.specs.Scalars.{get}
-use Rattle.kind.specs.Kinds.{SET-CONFIG, TX, RX-START, RX-STOP}
+use Rattle.kind.specs.Kinds.{SET-CONFIG, TX, RX-START, RX-STOP, EFRAME, CANCELLED}
 use Rattle.command.specs.Commands.{flags, packetOf}
 use Rattle.board.specs.Board.{Board, ringMax}
 use Rattle.modulation.specs.declared.Modulation.{Modulation}
 use Rattle.modulation.specs.declared.Modulation.the-variants as M
 use Rattle.device.specs.State.{Config, Setting, Tx, Radio, free, listening, onAir, orphan, configuring, Packet, Air, Inbox, State, link, air, inbox, state, withLink, withInbox, deaf, tagsOf, free?, runs?, stalled}
 use Rattle.device.specs.State.{Event, byte, tick, clear, busy, sent, configured, fault, packet, request, disconnect, Input, Order, nothing, standby, transmit, receive}
-use Rattle.device.specs.Messages.{Frame, Message, yes, ok, okInfo, err, txDone, rx, cancelled, CANCELLED, EFRAME, seen}
+use Rattle.device.specs.Messages.{Frame, Message, yes, ok, okInfo, err, txDone, rx, cancelled, seen}
 use Rattle.device.specs.Frames.{Received, damaged, command, received, objection, settingOf, txOf}
-use Rattle.device.specs.Events.{Out, refused, listens, listensIn, begun, idle, next, says, turned, onTx, onSet, unless, onCommand, onReceived, onByte, unlessStalled, onClear, onBusy, onSent, onConfigured, onFault, onPacket, onRequest, endSession, onTick, onDisconnect, onEvent, unlessRoom, step, roomMin, ticksMax}
+use Rattle.device.specs.Events.{Out, taken, refused, listens, listensIn, begun, idle, next, says, turned, onTx, onSet, unless, onCommand, onReceived, onByte, unlessStalled, onClear, onBusy, onSent, onConfigured, onFault, onPacket, onRequest, endSession, onTick, onDisconnect, onEvent, unlessRoom, step, roomMin, ticksMax}
 use Rattle.device.specs.Reading.{brings}
 use Rattle.device.specs.Tally.{Tally, ifTaken}
 use Rattle.device.specs.Observer.{Observer, observer, radioEnds, orderNoted, sends, sessionOver, noted}
@@ -138,7 +138,7 @@ module _ (b : Board) (c : List Closed) (l : ℕ) where
       orders : orderDue b 0 e (tallyOf c (has v r ws p)) (knownOf l (has v r ws p)) ≡ endOrder p ws (knownOf l (has v r ws p))
 
     ended : (e : Event) (v : Bool) (r : Radio) (ms : List Message) (ws : List Tx) (p : Option Setting) → Ends e v r ws p ms
-        → Tell (has v r ws p) e (next p ws ms (has v r ws p))
+        → Tell (has v r ws p) e (taken (next p ws ms (has v r ws p)))
     ended e v r ms [] none h =
         record {
           lost = l;
@@ -189,7 +189,7 @@ module _ (b : Board) (c : List Closed) (l : ℕ) where
     tells-configured true (configuring x) ws p = record { lost = l; knows = refl; drops = d; written = refl; order = refl }
     tells-configured false (configuring x) ws p = record { lost = l; knows = refl; drops = d; written = refl; order = refl }
 
-    tells-fault : (v : Bool) (r : Radio) (ws : List Tx) (p : Option Setting) → Tell (has v r ws p) fault (onFault r (has v r ws p))
+    tells-fault : (v : Bool) (r : Radio) (ws : List Tx) (p : Option Setting) → Tell (has v r ws p) fault (taken (onFault r (has v r ws p)))
     unfolding messagesDue orderDue
     tells-fault true free ws p = ended fault true free _ ws p (record { notes = λ fs o. refl; writes = refl; orders = refl })
     tells-fault false free ws p = ended fault false free _ ws p (record { notes = λ fs o. refl; writes = refl; orders = refl })
@@ -228,7 +228,7 @@ module _ (b : Board) (c : List Closed) (l : ℕ) where
       writes : messagesDue b 0 e (tallyOf c (has true r ws p)) (knownOf l (has true r ws p)) ≡ []
       orders : orderDue b 0 e (tallyOf c (has true r ws p)) (knownOf l (has true r ws p)) ≡ cond (atWork r) nothing standby
 
-    tells-end : (e : Event) (r : Radio) (ws : List Tx) (p : Option Setting) → Over e r ws p → Tell (has true r ws p) e (endSession r)
+    tells-end : (e : Event) (r : Radio) (ws : List Tx) (p : Option Setting) → Over e r ws p → Tell (has true r ws p) e (taken (endSession r))
     tells-end e free ws p h = record { lost = 0; knows = h .notes _ _; drops = refl; written = sym (h .writes); order = sym (h .orders) }
     tells-end e (listening t) ws p h = record { lost = 0; knows = h .notes _ _; drops = refl; written = sym (h .writes); order = sym (h .orders) }
     tells-end e (onAir t) ws p h = record { lost = 0; knows = h .notes _ _; drops = refl; written = sym (h .writes); order = sym (h .orders) }
@@ -242,24 +242,24 @@ module _ (b : Board) (c : List Closed) (l : ℕ) where
     over orphan o = refl
     over (configuring x) o = refl
 
-    tells-disconnect : (v : Bool) (r : Radio) (ws : List Tx) (p : Option Setting) → Tell (has v r ws p) disconnect (onDisconnect v (has v r ws p))
+    tells-disconnect : (v : Bool) (r : Radio) (ws : List Tx) (p : Option Setting) → Tell (has v r ws p) disconnect (taken (onDisconnect v (has v r ws p)))
     unfolding messagesDue orderDue
     tells-disconnect true r ws p = tells-end disconnect r ws p (record { notes = λ fs o. refl; writes = refl; orders = over r standby })
     tells-disconnect false r ws p = record { lost = l; knows = refl; drops = d; written = refl; order = sym (none-due (atWork r && true)) }
 
     -- a tick, by whether it counts and whether it makes 1000
-    tells-tick : (v : Bool) (r : Radio) (ws : List Tx) (p : Option Setting) → Tell (has v r ws p) tick (onTick (has v r ws p))
+    tells-tick : (v : Bool) (r : Radio) (ws : List Tx) (p : Option Setting) → Tell (has v r ws p) tick (taken (onTick (has v r ws p)))
     unfolding messagesDue orderDue
     tells-tick false r ws p = record { lost = l; knows = refl; drops = d; written = refl; order = sym (none-due (atWork r && true)) }
     tells-tick true r ws p = go (stalled (air r ws p)) refl (eqb (suc n) ticksMax) refl
       where
-        go : (u : Bool) → stalled (air r ws p) ≡ u → (w : Bool) → eqb (suc n) ticksMax ≡ w → Tell (has true r ws p) tick (onTick (has true r ws p))
+        go : (u : Bool) → stalled (air r ws p) ≡ u → (w : Bool) → eqb (suc n) ticksMax ≡ w → Tell (has true r ws p) tick (taken (onTick (has true r ws p)))
         go true e w f = rw e (record { lost = l; knows = rw e; drops = d; written = refl; order = rw e (sym (none-due (atWork r && true))) })
         go false e true f = rw (e, f) (tells-end tick r ws p (record { notes = λ fs o. rw (e, f); writes = refl; orders = rw (e, f) (over r standby) }))
         go false e false f = rw (e, f) (record { lost = l; knows = rw (e, f); drops = d; written = refl; order = rw (e, f) (sym (none-due (atWork r && true))) })
 
   tells-request : (k : Option Config) (n : ℕ) (rs : List ℕ) (on : Bool) (v : Bool) (a : Air) (m : ℕ) → m ≡ min l 65535 → (ps : List Packet)
-      → let s = state k (link v n rs) a (inbox on ps m) in Tell s request (onRequest ps s)
+      → let s = state k (link v n rs) a (inbox on ps m) in Tell s request (taken (onRequest ps s))
   unfolding messagesDue orderDue
   tells-request k n rs on v a m d [] = record { lost = l; knows = refl; drops = d; written = refl; order = sym (none-due (atWork (a .radio) && true)) }
   tells-request k n rs on v a m d (p ∷ ps) =
@@ -284,12 +284,12 @@ module _ (b : Board) (c : List Closed) (l : ℕ) where
     abbrev Framed : Received → Radio → List Tx → Option Setting → Out → Type 0
     Framed f r ws p o = brings (x ∷ xs) ≡ f → Tell (old r ws p) (byte 0) o
 
-    tells-damage : (r : Radio) (ws : List Tx) (p : Option Setting) → Framed damaged r ws p (says (err EFRAME 0) nothing (woken r ws p))
+    tells-damage : (r : Radio) (ws : List Tx) (p : Option Setting) → Framed damaged r ws p (taken (says (err EFRAME 0) nothing (woken r ws p)))
     unfolding messagesDue orderDue
     tells-damage r ws p e = record { lost = l; knows = rw e; drops = d; written = rw e; order = rw e (sym (none-due (atWork r && true))) }
 
     tells-wrong : (kind t code : ℕ) (q : List ℕ) (r : Radio) (ws : List Tx) (p : Option Setting) → commandError b k (opened r ws) kind q ≡ some code
-        → Framed (command kind t q) r ws p (says (err code t) nothing (woken r ws p))
+        → Framed (command kind t q) r ws p (taken (says (err code t) nothing (woken r ws p)))
     unfolding messagesDue orderDue
     tells-wrong kind t code q r ws p h e =
         record {
@@ -305,15 +305,15 @@ module _ (b : Board) (c : List Closed) (l : ℕ) where
       abbrev Right : ℕ → Radio → List Tx → Option Setting → Out → Type 0
       Right kind r ws p o = commandError b k (opened r ws) kind q ≡ none → Framed (command kind t q) r ws p o
 
-      tells-ping : (r : Radio) (ws : List Tx) (p : Option Setting) → Right 1 r ws p (says (ok t) nothing (woken r ws p))
+      tells-ping : (r : Radio) (ws : List Tx) (p : Option Setting) → Right 1 r ws p (taken (says (ok t) nothing (woken r ws p)))
       unfolding messagesDue orderDue
       tells-ping r ws p h e = record { lost = l; knows = rw e; drops = d; written = rw (e, h); order = rw (e, h) (sym (none-due (atWork r && true))) }
 
-      tells-info : (r : Radio) (ws : List Tx) (p : Option Setting) → Right 2 r ws p (says (okInfo b t) nothing (woken r ws p))
+      tells-info : (r : Radio) (ws : List Tx) (p : Option Setting) → Right 2 r ws p (taken (says (okInfo b t) nothing (woken r ws p)))
       unfolding messagesDue orderDue
       tells-info r ws p h e = record { lost = l; knows = rw e; drops = d; written = rw (e, h); order = rw (e, h) (sym (none-due (atWork r && true))) }
 
-      tells-set : (r : Radio) (ws : List Tx) → runs? r ≡ false → Right 3 r ws none (onSet (settingOf t q) r (withInbox deaf (woken r ws none)))
+      tells-set : (r : Radio) (ws : List Tx) → runs? r ≡ false → Right 3 r ws none (taken (onSet (settingOf t q) r (withInbox deaf (woken r ws none))))
       unfolding messagesDue orderDue
       tells-set free ws z h e =
           record { lost = 0; knows = rw (e, no-err (tagsOf ws)); drops = refl; written = rw (e, h) (same-cancels ws); order = rw (e, h) }
@@ -329,7 +329,7 @@ module _ (b : Board) (c : List Closed) (l : ℕ) where
       tells-set orphan ws z h e = record { lost = 0; knows = rw e; drops = refl; written = rw (e, h); order = refl }
       tells-set (configuring y) ws z h e = absurd (true≢false z)
 
-      tells-tx : (r : Radio) (ws : List Tx) → (r ≡ free → ws ≡ []) → Right 4 r ws none (onTx (txOf t q) r (woken r ws none))
+      tells-tx : (r : Radio) (ws : List Tx) → (r ≡ free → ws ≡ []) → Right 4 r ws none (taken (onTx (txOf t q) r (woken r ws none)))
       unfolding messagesDue orderDue
       tells-tx free [] f h e =
           record {
@@ -345,7 +345,7 @@ module _ (b : Board) (c : List Closed) (l : ℕ) where
       tells-tx orphan ws f h e = record { lost = l; knows = rw e; drops = d; written = rw (e, h); order = refl }
       tells-tx (configuring y) ws f h e = record { lost = l; knows = rw e; drops = d; written = rw (e, h); order = refl }
 
-      tells-start : (r : Radio) (ws : List Tx) (p : Option Setting) → Right 5 r ws p (turned true t (woken r ws p))
+      tells-start : (r : Radio) (ws : List Tx) (p : Option Setting) → Right 5 r ws p (taken (turned true t (woken r ws p)))
       unfolding messagesDue orderDue
       tells-start r ws p h e =
           record {
@@ -356,7 +356,7 @@ module _ (b : Board) (c : List Closed) (l : ℕ) where
             order = rw (e, h) (started r (i .receiving));
           }
 
-      tells-stop : (r : Radio) (ws : List Tx) (p : Option Setting) → Right 6 r ws p (turned false t (woken r ws p))
+      tells-stop : (r : Radio) (ws : List Tx) (p : Option Setting) → Right 6 r ws p (taken (turned false t (woken r ws p)))
       unfolding messagesDue orderDue
       tells-stop r ws p h e =
           record {
@@ -368,7 +368,7 @@ module _ (b : Board) (c : List Closed) (l : ℕ) where
           }
 
       right : (kind : ℕ) (r : Radio) (ws : List Tx) → (r ≡ free → ws ≡ []) → runs? r ≡ false
-          → Right kind r ws none (onCommand b kind t q (woken r ws none))
+          → Right kind r ws none (taken (onCommand b kind t q (woken r ws none)))
       right zero r ws f z h = absurd (let i : _≡_ {A = ℕ} 0 1 = cc in omega arith)
       right (suc zero) r ws f z h = tells-ping r ws none h
       right (suc (suc zero)) r ws f z h = tells-info r ws none h
@@ -381,12 +381,12 @@ module _ (b : Board) (c : List Closed) (l : ℕ) where
           absurd (let u : _≡_ {A = ℕ} 0 1 = cc in omega arith)
 
       answered : (kind : ℕ) (r : Radio) (ws : List Tx) → (r ≡ free → ws ≡ []) → runs? r ≡ false
-          → (o : Option ℕ) → commandError b k (opened r ws) kind q ≡ o → Framed (command kind t q) r ws none (unless o b kind t q (woken r ws none))
+          → (o : Option ℕ) → commandError b k (opened r ws) kind q ≡ o → Framed (command kind t q) r ws none (taken (unless o b kind t q (woken r ws none)))
       answered kind r ws f z (some code) h = tells-wrong kind t code q r ws none h
       answered kind r ws f z none h = right kind r ws f z h
 
     tells-received : (f : Received) (r : Radio) (ws : List Tx) → (r ≡ free → ws ≡ []) → runs? r ≡ false
-        → Framed f r ws none (onReceived b f (woken r ws none))
+        → Framed f r ws none (taken (onReceived b f (woken r ws none)))
     unfolding objection
     tells-received damaged r ws f z = tells-damage r ws none
     tells-received (command kind t q) r ws f z =
@@ -398,7 +398,7 @@ module _ (b : Board) (c : List Closed) (l : ℕ) where
     at rs r ws p = state k (link v n rs) (air r ws p) i
 
     tells-taken : (y : ℕ) (rs : List ℕ) (r : Radio) (ws : List Tx) → (r ≡ free → ws ≡ []) → runs? r ≡ false
-        → Tell (at rs r ws none) (byte y) (onByte b y (at rs r ws none))
+        → Tell (at rs r ws none) (byte y) (taken (onByte b y (at rs r ws none)))
     unfolding messagesDue orderDue
     tells-taken zero [] r ws f z = record { lost = l; knows = refl; drops = d; written = refl; order = sym (none-due (atWork r && true)) }
     tells-taken zero (x ∷ xs) r ws f z = tells-received k v n x xs i d (received (x ∷ xs)) r ws f z (sym (run-brings (x ∷ xs)))

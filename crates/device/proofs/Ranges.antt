@@ -17,7 +17,7 @@ use Rattle.scalar.specs.Bytes.{Each, IsByte, Bytes}
 use Rattle.scalar.specs.Scalars.{le, get}
 use Rattle.scalar.proofs.Bytes.{each-append, each-right, each-take, each-drop}
 use Rattle.buffer.specs.Lay.{lay}
-use Rattle.kind.specs.Kinds.{GET-INFO, SET-CONFIG, TX, RX, RX-START, RX-STOP, isCommand}
+use Rattle.kind.specs.Kinds.{GET-INFO, SET-CONFIG, TX, RX, RX-START, RX-STOP, isCommand, EPARAM, ELENGTH, ENOTCONFIGURED, EMODULATION, EUNKNOWN-CMD, EBUSY, ERADIO, EFRAME, TRANSMITTED, CHANNEL-BUSY, CANCELLED, packetMax}
 use Rattle.frame.specs.Body.{overhead, payloadOf}
 use Rattle.frame.specs.Reading.{openAnswer}
 use Rattle.frame.specs.declared.Opened.{Opened}
@@ -30,17 +30,17 @@ use Rattle.modulation.specs.declared.Modulation.the-variants as M
 use Rattle.modulation.specs.Modulations.{LORA, FSK, modulation-id, configOf, syncWord}
 use Rattle.modulation.proofs.Laws.{length-config, fixed-most, wordLen, config-in}
 use Rattle.info.proofs.Laws.{length-info}
-use Rattle.rx.specs.Rx.{rxMax, rxBytes}
+use Rattle.rx.specs.Rx.{rxBytes}
 use Rattle.answer.specs.Answers.{answerBytes, configuredBytes, txDoneMax, txDoneBytes}
 use Rattle.answer.specs.declared.Answer.{Answer}
 use Rattle.answer.specs.declared.Answer.the-variants as A
 use Rattle.board.specs.Board.{Board, ringMax, txMax, infoOf, uidsOf, bitmap, sx1262}
 use Rattle.board.specs.Params.{paramsGood, fskGood, freqGood}
 use Rattle.device.specs.State.{Config, Setting, Tx, Radio, free, listening, onAir, orphan, configuring, Packet, Inbox, Air, State, link, air, inbox, state, withLink, withInbox, deaf, powerUp, held, tagsOf, open#, free?, stalled}
-use Rattle.device.specs.State.{Event, byte, tick, clear, busy, sent, configured, fault, packet, request, disconnect, Input, Order, nothing}
-use Rattle.device.specs.Messages.{Message, wires, ok, okInfo, okConfigured, err, txDone, rx, cancelled, TRANSMITTED, CHANNEL-BUSY, CANCELLED, EPARAM, ELENGTH, ENOTCONFIGURED, EMODULATION, EUNKNOWN-CMD, EBUSY, EFRAME, ERADIO, seen}
+use Rattle.device.specs.State.{Event, byte, tick, clear, busy, sent, configured, fault, packet, request, disconnect, Input, nothing}
+use Rattle.device.specs.Messages.{Message, wires, ok, okInfo, okConfigured, err, txDone, rx, cancelled, seen}
 use Rattle.device.specs.Frames.{Received, damaged, command, received, untagged, unconfigured, needsConfig, strange, configSized, sized, objection, good, settingOf, txOf}
-use Rattle.device.specs.Events.{Out, taken, begun, start, begin, next, afterTx, says, waitsFor, onTx, onSet, turned, onCommand, unless, onReceived, onRun, onByte, unlessStalled, onClear, onBusy, onSent, onConfigured, inForce, heard, onFault, cut, kept, dropsMax, listens, onPacket, onRequest, ended, endSession, ticksMax, onTick, onDisconnect, onEvent, roomMin, unlessRoom, step}
+use Rattle.device.specs.Events.{Done, does, Out, begun, start, begin, next, afterTx, says, waitsFor, onTx, onSet, turned, onCommand, unless, onReceived, onRun, onByte, unlessStalled, onClear, onBusy, onSent, onConfigured, inForce, heard, onFault, cut, kept, dropsMax, listens, onPacket, onRequest, ended, endSession, ticksMax, onTick, onDisconnect, onEvent, roomMin, unlessRoom, step}
 use Rattle.device.specs.Tally.{wrote}
 use Rattle.device.specs.Ranges.{PacketIn, EventIn, InputIn, BoardIn}
 use Rattle.device.proofs.Laws.{tags-more}
@@ -74,7 +74,7 @@ pub record AirIn (a : Air) : Type 0 where
 -- a packet that was cut
 pub record HeldIn (p : Packet) : Type 0 where
   pub values : PacketIn p
-  pub short : length (p .bytes) ≤ rxMax
+  pub short : length (p .bytes) ≤ packetMax
 
 pub record InboxIn (i : Inbox) : Type 0 where
   pub ring : Each HeldIn (i .ring)
@@ -156,22 +156,28 @@ hears false t h = silence 9
 
 -- ---- what an event leaves and writes
 
-pub record Kept (o : Out) : Type 0 where
-  pub next : StateIn (o .next)
-  pub sendable : AllSendable (o .written)
-  pub most : length (wires (o .written)) ≤ 283
-  pub others : wrote RX (map seen (o .written)) ≡ false → length (wires (o .written)) ≤ 201
+pub record Fits (s : State) (ms : List Message) : Type 0 where
+  pub next : StateIn s
+  pub sendable : AllSendable ms
+  pub most : length (wires ms) ≤ 283
+  pub others : wrote RX (map seen ms) ≡ false → length (wires ms) ≤ 201
 
-keep : {o : Out} → StateIn (o .next) → {n : ℕ} → Wired n (o .written) → n ≤ 201 → Kept o
+abbrev pub Kept : Out → Type 0
+Kept o = Fits (o .next) (o .written)
+
+abbrev Does : Done → Type 0
+Does x = Fits (x .next) (x .written)
+
+keep : {s : State} {ms : List Message} → StateIn s → {n : ℕ} → Wired n ms → n ≤ 201 → Fits s ms
 keep h w l =
     record { next = h; sendable = w .sendable; most = omega (arith, w .size); others = λ e. omega (arith, w .size) }
 
 -- nothing is written
-still : {s : State} {n : ℕ} {o : Order} → StateIn s → Kept (record { next = s; number = n; written = []; order = o })
+still : {s : State} → StateIn s → Fits s []
 still h = keep h (silence 0) (omega arith)
 
 -- one message is
-said : (m : Message) → Sendable m → longest m ≤ 85 → {s : State} {o : Order} → StateIn s → Kept (says m o s)
+said : (m : Message) → Sendable m → longest m ≤ 85 → {s : State} → StateIn s → Fits s (m ∷ [])
 said m w l h = keep h (one 201 m w (omega arith)) (omega arith)
 
 -- ---- the radio
@@ -205,7 +211,7 @@ ended-in (onAir t) x = idle-in orphan refl tt
 ended-in orphan x = idle-in orphan refl tt
 ended-in (configuring c) x = idle-in (configuring c) refl x
 
-end-kept : (r : Radio) → RadioIn r → Kept (endSession r)
+end-kept : (r : Radio) → RadioIn r → Does (endSession r)
 end-kept r x = still record { run = tt; air = ended-in r x; inbox = deaf-in }
 
 -- ---- packets
@@ -214,7 +220,7 @@ cut-in : (p : Packet) → PacketIn p → HeldIn (cut p)
 cut-in p k =
     record {
       values = record { rssi = k .rssi; snr = k .snr; freq-err = k .freq-err; time = k .time };
-      short = omega (arith, length-take rxMax (p .bytes));
+      short = omega (arith, length-take packetMax (p .bytes));
     }
 
 kept-in : (p : Packet) → HeldIn p → (i : Inbox) → InboxIn i → InboxIn (kept p i)
@@ -242,20 +248,20 @@ module _ (s : State) (h : StateIn s) where
   with-run r = record { run = r; air = h .air; inbox = h .inbox }
 
   start-kept : (x : Tx) (ws : List Tx) → Each TagIn (tagsOf (x ∷ ws)) → length (tagsOf (x ∷ ws)) ≤ txMax → {n : ℕ} {ms : List Message}
-      → Wired n ms → n ≤ 201 → Kept (start x ws ms s)
+      → Wired n ms → n ≤ 201 → Does (start x ws ms s)
   start-kept x ws t few w l = keep (with-air _ (begun-in x ws t few (listens (s .config) (x .flags)))) w l
 
-  begin-kept : (c : Setting) → SettingIn c → {n : ℕ} {ms : List Message} → Wired n ms → n ≤ 201 → Kept (begin c ms s)
+  begin-kept : (c : Setting) → SettingIn c → {n : ℕ} {ms : List Message} → Wired n ms → n ≤ 201 → Does (begin c ms s)
   begin-kept c k w l = keep (with-air _ (idle-in (configuring c) refl k)) w l
 
   -- the four ways on after a TX
   next-kept : (p : Option Setting) → PendingIn p → (ws : List Tx) → Each TagIn (tagsOf ws) → {n : ℕ} {ms : List Message} → Wired n ms
-      → n + 12 * length (tagsOf ws) ≤ 201 → Kept (next p ws ms s)
+      → n + 12 * length (tagsOf ws) ≤ 201 → Does (next p ws ms s)
   next-kept (some c) k ws t w l = begin-kept c k (both 201 w (cancels (tagsOf ws) t) l) (omega arith)
   next-kept none k (x ∷ ws) t w l = start-kept x ws t (omega arith) w (omega arith)
   next-kept none k [] t w l = keep (with-air _ (idle-in free refl tt)) w (omega arith)
 
-  after-kept : {n : ℕ} {ms : List Message} → Wired n ms → n + 12 * length (tagsOf (s .air .waiting)) ≤ 201 → Kept (afterTx ms s)
+  after-kept : {n : ℕ} {ms : List Message} → Wired n ms → n + 12 * length (tagsOf (s .air .waiting)) ≤ 201 → Does (afterTx ms s)
   after-kept w l =
       next-kept (s .air .pending) (h .air .pending) (s .air .waiting)
       (each-right TagIn (held (s .air .radio)) (tagsOf (s .air .waiting)) (h .air .tags)) w l
@@ -285,7 +291,7 @@ module _ (s : State) (h : StateIn s) where
   sent-kept airtime a orphan i = after-kept (silence 0) (omega (arith, i .few))
   sent-kept airtime a (configuring c) i = still h
 
-  in-force-kept : (session : Bool) (c : Setting) → With (configuring c) → Kept (inForce session c s)
+  in-force-kept : (session : Bool) (c : Setting) → With (configuring c) → Does (inForce session c s)
   in-force-kept true c i =
       let k = i .radio .config in
       said (okConfigured c) (configured-sent c (i .radio .tag) k) (omega (arith, k .word, k .short))
@@ -301,10 +307,10 @@ module _ (s : State) (h : StateIn s) where
 
   -- an ERR, and the TX with the radio is cancelled
   cancelled-kept : (t : ℕ) → TagIn t → length (t ∷ tagsOf (s .air .waiting)) ≤ txMax
-      → Kept (afterTx (heard (s .link .session) (err ERADIO 0) ++ (txDone CANCELLED 0 t ∷ [])) s)
+      → Does (afterTx (heard (s .link .session) (err ERADIO 0) ++ (txDone CANCELLED 0 t ∷ [])) s)
   cancelled-kept t k l = after-kept (both 21 (hears (s .link .session) 0 (omega arith)) (cancel t k) (omega arith)) (omega arith)
 
-  fault-kept : (r : Radio) → With r → Kept (onFault r s)
+  fault-kept : (r : Radio) → With r → Does (onFault r s)
   fault-kept free i = after-kept (hears (s .link .session) 0 (omega arith)) (omega (arith, i .few))
   fault-kept (listening t) i = cancelled-kept t (i .tags .0) (i .few)
   fault-kept (onAir t) i = cancelled-kept t (i .tags .0) (i .few)
@@ -316,7 +322,7 @@ module _ (s : State) (h : StateIn s) where
   packet-kept true p k = still (with-inbox (kept-in (cut p) (cut-in p k) (s .inbox) (h .inbox)))
   packet-kept false p k = still h
 
-  request-kept : (ps : List Packet) → Each HeldIn ps → Kept (onRequest ps s)
+  request-kept : (ps : List Packet) → Each HeldIn ps → Does (onRequest ps s)
   request-kept [] k = still h
   request-kept (p ∷ ps) k =
       let l = k .0 .short in
@@ -328,23 +334,23 @@ module _ (s : State) (h : StateIn s) where
         others = λ e. absurd (true≢false e);
       }
 
-  tick-kept : Kept (onTick s)
+  tick-kept : Does (onTick s)
   tick-kept = go (s .link .session && not (stalled (s .air))) (eqb (suc (s .link .ticks)) ticksMax)
     where
       go : (counts last : Bool)
-          → Kept (cond counts (cond last (endSession (s .air .radio)) (taken (withLink (link true (suc (s .link .ticks)) (s .link .run)) s) [] nothing))
-          (taken s [] nothing))
+          → Does (cond counts (cond last (endSession (s .air .radio)) (does (withLink (link true (suc (s .link .ticks)) (s .link .run)) s) [] nothing))
+          (does s [] nothing))
       go true true = end-kept (s .air .radio) (h .air .radio)
       go true false = still (with-run (h .run))
       go false last = still h
 
-  disconnect-kept : (session : Bool) → Kept (onDisconnect session s)
+  disconnect-kept : (session : Bool) → Does (onDisconnect session s)
   disconnect-kept true = end-kept (s .air .radio) (h .air .radio)
   disconnect-kept false = still (with-run tt)
 
   -- ---- a command without objection
 
-  set-kept : (c : Setting) → SettingIn c → (r : Radio) → With r → Kept (onSet c r s)
+  set-kept : (c : Setting) → SettingIn c → (r : Radio) → With r → Does (onSet c r s)
   set-kept c k free i = begin-kept c k (cancels (tagsOf (s .air .waiting)) (i .tags)) (omega (arith, i .few))
   set-kept c k (listening t) i = begin-kept c k (cancels (t ∷ tagsOf (s .air .waiting)) (i .tags)) (omega (arith, i .few))
   set-kept c k (onAir t) i = still (with-air _ (moved (onAir t) (onAir t) refl tt k i))
@@ -352,17 +358,17 @@ module _ (s : State) (h : StateIn s) where
   set-kept c k (configuring d) i = begin-kept c k (cancels (tagsOf (s .air .waiting)) (i .tags)) (omega (arith, i .few))
 
   module _ (x : Tx) (k : TagIn (x .tag)) where
-    waits-kept : (r : Radio) → With r → open# (air r (s .air .waiting) (s .air .pending)) < txMax → Kept (waitsFor x r s)
+    waits-kept : (r : Radio) → With r → open# (air r (s .air .waiting) (s .air .pending)) < txMax → Does (waitsFor x r s)
     waits-kept r i l = said (ok (x .tag)) (ok-sent (x .tag) k) (omega arith) (with-air _ (joined x k r l i))
 
-    tx-kept : (r : Radio) → With r → open# (air r (s .air .waiting) (s .air .pending)) < txMax → Kept (onTx x r s)
+    tx-kept : (r : Radio) → With r → open# (air r (s .air .waiting) (s .air .pending)) < txMax → Does (onTx x r s)
     tx-kept free i l = start-kept x (s .air .waiting) (k, i .tags) l (one 7 (ok (x .tag)) (ok-sent (x .tag) k) (omega arith)) (omega arith)
     tx-kept (listening t) i l = waits-kept (listening t) i l
     tx-kept (onAir t) i l = waits-kept (onAir t) i l
     tx-kept orphan i l = waits-kept orphan i l
     tx-kept (configuring c) i l = waits-kept (configuring c) i l
 
-  turned-kept : (on : Bool) (t : ℕ) → TagIn t → Kept (turned on t s)
+  turned-kept : (on : Bool) (t : ℕ) → TagIn t → Does (turned on t s)
   turned-kept on t k = said (ok t) (ok-sent t k) (omega arith) (with-inbox (record { ring = h .inbox .ring; drops = h .inbox .drops }))
 
 -- ---- what steps 1 to 7 tell
@@ -455,11 +461,11 @@ uids-short b h = rw (length-append (b .mcu-uid) (b .radio-uid)) (omega (arith, h
 
 module _ (b : Board) (board : BoardIn b) (s : State) (h : StateIn s) where
   module _ (kind t : ℕ) (p : List ℕ) (k : TagIn t) (bytes : Bytes p) where
-    command-kept : Passed b s kind p → Kept (onCommand b kind t p s)
+    command-kept : Passed b s kind p → Does (onCommand b kind t p s)
     command-kept e = go (eqb kind TX) refl (eqb kind SET-CONFIG) refl (eqb kind RX-START) (eqb kind RX-STOP) (eqb kind GET-INFO)
       where
         go : (tx : Bool) → eqb kind TX ≡ tx → (set : Bool) → eqb kind SET-CONFIG ≡ set → (rx-start rx-stop get-info : Bool)
-            → Kept (cond tx (onTx (txOf t p) (s .air .radio) s)
+            → Does (cond tx (onTx (txOf t p) (s .air .radio) s)
             (cond set (onSet (settingOf t p) (s .air .radio) (withInbox deaf s))
             (cond rx-start (turned true t s)
             (cond rx-stop (turned false t s)
@@ -473,20 +479,20 @@ module _ (b : Board) (board : BoardIn b) (s : State) (h : StateIn s) where
         go false x false y false false true = said (okInfo b t) (info-sent b board t k) (omega (arith, uids-short b board)) h
         go false x false y false false false = said (ok t) (ok-sent t k) (omega arith) h
 
-    unless-kept : (o : Option ℕ) → Told b s kind p o → Kept (unless o b kind t p s)
+    unless-kept : (o : Option ℕ) → Told b s kind p o → Does (unless o b kind t p s)
     unless-kept (some code) c = said (err code t) (err-sent code c t (k .1)) (omega arith) h
     unless-kept none c = command-kept c
 
-  received-kept : (r : Received) → ReceivedIn r → Kept (onReceived b r s)
+  received-kept : (r : Received) → ReceivedIn r → Does (onReceived b r s)
   received-kept damaged k = said (err EFRAME 0) (err-sent EFRAME (omega arith) 0 (omega arith)) (omega arith) h
   received-kept (command kind t p) k = unless-kept kind t p (k .0) (k .1) (objection b s kind p) (told b s kind p)
 
 module _ (b : Board) (board : BoardIn b) (s : State) (h : StateIn s) where
-  run-kept : (run : List ℕ) → Bytes run → Kept (onRun b run s)
+  run-kept : (run : List ℕ) → Bytes run → Does (onRun b run s)
   run-kept [] r = still h
   run-kept (x ∷ xs) r = received-kept b board (withLink (link true 0 []) s) (with-run s h tt) (received (x ∷ xs)) (received-in (x ∷ xs) r)
 
-  byte-kept : (n : ℕ) → n < 256 → Kept (onByte b n s)
+  byte-kept : (n : ℕ) → n < 256 → Does (onByte b n s)
   byte-kept zero l = run-kept (s .link .run) (h .run)
   byte-kept (suc n) l = still (with-run s h (each-append IsByte (s .link .run) (suc n ∷ []) (h .run) (l, tt)))
 

@@ -12,11 +12,11 @@ use lib.IntN.{pos, negsuc}
 use lib.ListN.{length, replicate}
 use Rattle.cobs.specs.Encoding.{encoded}
 use Rattle.frame.specs.Body.{body}
-use Rattle.kind.specs.Kinds.{PING, GET-INFO, SET-CONFIG, TX, RX-START, RX-STOP}
+use Rattle.kind.specs.Kinds.{PING, GET-INFO, SET-CONFIG, TX, RX-START, RX-STOP, ENOTCONFIGURED, ERADIO, EFRAME}
 use Rattle.answer.specs.declared.Answer.the-variants as A
 use Rattle.board.specs.Board.{sx1262, infoOf, uidsOf}
 use Rattle.device.specs.State.{Config, Packet, state, link, air, inbox, free, Event, byte, tick, busy, sent, configured, fault, packet, request, disconnect, Input, Order, nothing, standby, configure, transmit}
-use Rattle.device.specs.Messages.{Message, message, wires, EFRAME, ERADIO, ENOTCONFIGURED}
+use Rattle.device.specs.Messages.{Message, message, wires}
 use Rattle.device.specs.Events.{Reply}
 use Rattle.device.specs.Reading.{frames}
 use Rattle.device.specs.Tally.{tally, Entry, entry, withRadio, waits, dones, newlyReported}

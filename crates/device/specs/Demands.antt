@@ -9,7 +9,7 @@ use mathlib.Core.List.{List, [], _∷_, _++_, map}
 use lib.Dec.{ltb, eqb}
 use lib.ListN.{length, take, getD}
 use Rattle.numbers.specs.Numbers.{TAKEN}
-use Rattle.kind.specs.Kinds.{ERR, RX}
+use Rattle.kind.specs.Kinds.{ERR, RX, EFRAME}
 use Rattle.rx.specs.Rx.{rxOf}
 use Rattle.buffer.specs.Lay.{lay}
 use Rattle.scalar.specs.Bytes.{Each}
@@ -28,10 +28,10 @@ use Rattle.writer.specs.Writing.{writeAnswer, writeLeft}
 use Rattle.board.specs.Board.{Board}
 use Rattle.device.specs.State.{State, link, withLink, powerUp, held, tagsOf}
 use Rattle.device.specs.State.{Event, byte, tick, clear, busy, sent, configured, fault, packet, request, disconnect, Input, Order, nothing}
-use Rattle.device.specs.Messages.{Message, payload, wire, wires, EFRAME, Frame, frame, seen}
+use Rattle.device.specs.Messages.{Message, payload, wire, wires, Frame, frame, seen}
 use Rattle.device.specs.Frames.{Received, damaged, command}
 use Rattle.device.specs.Reading.{frames, brings}
-use Rattle.device.specs.Events.{Out, taken, refused, step, Reply, reply}
+use Rattle.device.specs.Events.{does, Out, taken, refused, step, Reply, reply}
 use Rattle.device.specs.Tally.{Place, reported, dropped, withRadio, waits, Entry, entry, open?, Tally, noTally, ifTaken, tallied, wrote, dones, reportedTags, newlyReported}
 use Rattle.device.specs.Observer.{Observer, knowsNothing, observed}
 use Rattle.device.specs.Due.{reconfiguring, cause, numberDue, errDue, messagesDue, orderDue}
@@ -59,7 +59,7 @@ Demand1 b s i = Exact (λ (o : Out). o .number) (λ k. refused k s) (causeIn s i
 abbrev pub Demand2 : Board → State → ℕ → Type 0
 Demand2 b s room =
     ltb room 283 ≡ false → reconfiguring (s .air .pending) (s .air .radio) ≡ false → 0 < length (s .link .run) → brings (s .link .run) ≡ damaged
-    → step b s (record { room = room; event = byte 0 }) ≡ taken (withLink (link true 0 []) s) (errDue EFRAME 0 ∷ []) nothing
+    → step b s (record { room = room; event = byte 0 }) ≡ taken (does (withLink (link true 0 []) s) (errDue EFRAME 0 ∷ []) nothing)
 
 -- ---- a device as the demands on histories see it
 

@@ -10,7 +10,7 @@ use lib.Dec.{leb, ltb, eqb}
 use lib.ListN.{length}
 use Rattle.numbers.specs.Numbers.{TAKEN, ROOM, STALL, PLACE}
 use Rattle.scalar.specs.Scalars.{get}
-use Rattle.kind.specs.Kinds.{PING, GET-INFO, SET-CONFIG, TX, RX-START, RX-STOP}
+use Rattle.kind.specs.Kinds.{PING, GET-INFO, SET-CONFIG, TX, RX-START, RX-STOP, EPARAM, ELENGTH, ENOTCONFIGURED, EMODULATION, EUNKNOWN-CMD, EBUSY, ERADIO, EFRAME}
 use Rattle.modulation.specs.Lora.{loraSize}
 use Rattle.modulation.specs.Fsk.{fskSize, sync-word-len}
 use Rattle.modulation.specs.Modulations.{LORA, FSK, modulation-id, configOf}
@@ -23,7 +23,7 @@ use Rattle.board.specs.Params.{paramsGood}
 use Rattle.board.specs.Ldro.{ldro}
 use Rattle.device.specs.State.{Config, Setting, Tx, RadioOf, Radio, free, listening, onAir, orphan, configuring, Packet, Air}
 use Rattle.device.specs.State.{Event, byte, tick, clear, busy, sent, configured, fault, packet, request, disconnect, Order, nothing, standby, configure, transmit, receive}
-use Rattle.device.specs.Messages.{Message, message, EPARAM, ELENGTH, ENOTCONFIGURED, EMODULATION, EUNKNOWN-CMD, EBUSY, ERADIO, EFRAME}
+use Rattle.device.specs.Messages.{Message, message}
 use Rattle.device.specs.Frames.{Received, damaged, command}
 use Rattle.device.specs.Reading.{brings}
 use Rattle.device.specs.Tally.{Tally, ifTaken}

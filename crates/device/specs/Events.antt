@@ -7,34 +7,43 @@ use mathlib.Core.Option.{Option, none, some}
 use lib.Dec.{leb, ltb, eqb}
 use lib.ListN.{length, take, drop}
 use Rattle.numbers.specs.Numbers.{TAKEN, ROOM, STALL, PLACE}
-use Rattle.kind.specs.Kinds.{GET-INFO, SET-CONFIG, TX, RX-START, RX-STOP}
+use Rattle.frame.specs.Body.{frameMax}
+use Rattle.kind.specs.Kinds.{GET-INFO, SET-CONFIG, TX, RX-START, RX-STOP, ERADIO, EFRAME, TRANSMITTED, CHANNEL-BUSY, CANCELLED, packetMax}
 use Rattle.modulation.specs.declared.Modulation.{Modulation}
 use Rattle.modulation.specs.declared.Modulation.the-variants as M
-use Rattle.rx.specs.Rx.{rxMax}
 use Rattle.board.specs.Board.{Board, ringMax}
 use Rattle.board.specs.Ldro.{ldro}
 use Rattle.device.specs.State.{Config, Setting, Tx, RadioOf, Radio, free, listening, onAir, orphan, configuring, Packet, Inbox, State, link, air, inbox, state, withConfig, withLink, withAir, withInbox, silent, deaf, tagsOf, free?, stalled}
 use Rattle.device.specs.State.{Event, byte, tick, clear, busy, sent, configured, fault, packet, request, disconnect, Input, Order, nothing, standby, configure, transmit, receive}
-use Rattle.device.specs.Messages.{Message, ok, okInfo, okConfigured, err, txDone, cancelled, rx, wires, ERADIO, EFRAME, TRANSMITTED, CHANNEL-BUSY, CANCELLED}
+use Rattle.device.specs.Messages.{Message, ok, okInfo, okConfigured, err, txDone, cancelled, rx, wires}
 use Rattle.device.specs.Frames.{Received, damaged, command, received, objection, settingOf, txOf}
 
--- the next state, the number, the messages written and the radio order
+-- what an event does that is taken: the next state, the messages written and the radio order
+pub record Done : Type 0 where
+  pub next : State
+  pub written : List Message
+  pub order : Order
+
+abbrev pub does : State → List Message → Order → Done
+does s ms o = record { next = s; written = ms; order = o }
+
+-- one message is written
+abbrev pub says : Message → Order → State → Done
+says m o s = does s (m ∷ []) o
+
+-- what an event is answered with: the number too
 pub record Out : Type 0 where
   pub next : State
   pub number : ℕ
   pub written : List Message
   pub order : Order
 
-abbrev pub taken : State → List Message → Order → Out
-taken s ms o = record { next = s; number = TAKEN; written = ms; order = o }
+abbrev pub taken : Done → Out
+taken x = record { next = x .next; number = TAKEN; written = x .written; order = x .order }
 
 -- a refusal writes nothing, orders nothing and leaves the state
 abbrev pub refused : ℕ → State → Out
 refused n s = record { next = s; number = n; written = []; order = nothing }
-
--- an answer of one message
-abbrev pub says : Message → Order → State → Out
-says m o s = taken s (m ∷ []) o
 
 -- ---- TX taken: its OK, and then it starts if the radio is free, or waits
 
@@ -52,16 +61,16 @@ begun true t = listening t
 begun false t = onAir t
 
 -- the TX x starts, and ws wait
-abbrev pub start : Tx → List Tx → List Message → State → Out
+abbrev pub start : Tx → List Tx → List Message → State → Done
 start x ws ms s =
     let first = listens (s .config) (x .flags) in
-    taken (withAir (air (begun first (x .tag)) ws none) s) ms (transmit (x .packet) first)
+    does (withAir (air (begun first (x .tag)) ws none) s) ms (transmit (x .packet) first)
 
-abbrev pub waitsFor : Tx → Radio → State → Out
+abbrev pub waitsFor : Tx → Radio → State → Done
 waitsFor x r s =
     says (ok (x .tag)) nothing (withAir (air r (s .air .waiting ++ (x ∷ [])) (s .air .pending)) s)
 
-abbrev pub onTx : Tx → Radio → State → Out
+abbrev pub onTx : Tx → Radio → State → Done
 onTx x free s = start x (s .air .waiting) (ok (x .tag) ∷ []) s
 onTx x (listening t) s = waitsFor x (listening t) s
 onTx x (onAir t) s = waitsFor x (onAir t) s
@@ -71,9 +80,9 @@ onTx x (configuring c) s = waitsFor x (configuring c) s
 -- ---- after a TX ends
 
 -- the radio begins to be configured
-abbrev pub begin : Setting → List Message → State → Out
+abbrev pub begin : Setting → List Message → State → Done
 begin c ms s =
-    taken (withAir (air (configuring c) [] none) s) ms (configure (c .config) (ldro (c .config .modulation)))
+    does (withAir (air (configuring c) [] none) s) ms (configure (c .config) (ldro (c .config .modulation)))
 
 -- the order when there is nothing to send: receive if receiving, else standby
 unfoldable pub idle : Bool → Order
@@ -81,12 +90,12 @@ idle true = receive
 idle false = standby
 
 -- what comes next: a waiting SET_CONFIG, which cancels the TX that wait; else the oldest waiting TX; else receive or standby
-abbrev pub next : Option Setting → List Tx → List Message → State → Out
+abbrev pub next : Option Setting → List Tx → List Message → State → Done
 next (some c) ws ms s = begin c (ms ++ cancelled (tagsOf ws)) s
 next none (w ∷ ws) ms s = start w ws ms s
-next none [] ms s = taken (withAir (air free [] none) s) ms (idle (s .inbox .receiving))
+next none [] ms s = does (withAir (air free [] none) s) ms (idle (s .inbox .receiving))
 
-abbrev pub afterTx : List Message → State → Out
+abbrev pub afterTx : List Message → State → Done
 afterTx ms s = next (s .air .pending) (s .air .waiting) ms s
 
 -- ---- clear, busy, sent
@@ -94,7 +103,7 @@ afterTx ms s = next (s .air .pending) (s .air .waiting) ms s
 -- listening becomes on air
 abbrev pub onClear : Radio → State → Out
 onClear free s = refused PLACE s
-onClear (listening t) s = taken (withAir (air (onAir t) (s .air .waiting) (s .air .pending)) s) [] nothing
+onClear (listening t) s = taken (does (withAir (air (onAir t) (s .air .waiting) (s .air .pending)) s) [] nothing)
 onClear (onAir t) s = refused PLACE s
 onClear orphan s = refused PLACE s
 onClear (configuring c) s = refused PLACE s
@@ -102,7 +111,7 @@ onClear (configuring c) s = refused PLACE s
 -- the channel is busy: that TX is reported with 1
 abbrev pub onBusy : Radio → State → Out
 onBusy free s = refused PLACE s
-onBusy (listening t) s = afterTx (txDone CHANNEL-BUSY 0 t ∷ []) s
+onBusy (listening t) s = taken (afterTx (txDone CHANNEL-BUSY 0 t ∷ []) s)
 onBusy (onAir t) s = refused PLACE s
 onBusy orphan s = refused PLACE s
 onBusy (configuring c) s = refused PLACE s
@@ -111,34 +120,34 @@ onBusy (configuring c) s = refused PLACE s
 abbrev pub onSent : ℕ → Radio → State → Out
 onSent airtime free s = refused PLACE s
 onSent airtime (listening t) s = refused PLACE s
-onSent airtime (onAir t) s = afterTx (txDone TRANSMITTED airtime t ∷ []) s
-onSent airtime orphan s = afterTx [] s
+onSent airtime (onAir t) s = taken (afterTx (txDone TRANSMITTED airtime t ∷ []) s)
+onSent airtime orphan s = taken (afterTx [] s)
 onSent airtime (configuring c) s = refused PLACE s
 
 -- ---- SET_CONFIG taken
 
 -- Its OK comes later. With a TX or an orphan on air it waits. Otherwise every open TX is reported with 2, the oldest first, and the radio is configured.
 -- While the radio is being configured no byte is taken, so none comes then.
-abbrev pub onSet : Setting → Radio → State → Out
+abbrev pub onSet : Setting → Radio → State → Done
 onSet c free s = begin c (cancelled (tagsOf (s .air .waiting))) s
 onSet c (listening t) s = begin c (cancelled (t ∷ tagsOf (s .air .waiting))) s
-onSet c (onAir t) s = taken (withAir (air (onAir t) (s .air .waiting) (some c)) s) [] nothing
-onSet c orphan s = taken (withAir (air orphan (s .air .waiting) (some c)) s) [] nothing
+onSet c (onAir t) s = does (withAir (air (onAir t) (s .air .waiting) (some c)) s) [] nothing
+onSet c orphan s = does (withAir (air orphan (s .air .waiting) (some c)) s) [] nothing
 onSet c (configuring d) s = begin c (cancelled (tagsOf (s .air .waiting))) s
 
 -- ---- configured
 
 -- CONFIGURED, and the OK that was withheld. Where the session has ended, neither: the radio goes to standby.
-abbrev pub inForce : Bool → Setting → State → Out
+abbrev pub inForce : Bool → Setting → State → Done
 inForce true c s = says (okConfigured c) nothing (withConfig (some (c .config)) (withAir (air free (s .air .waiting) (s .air .pending)) s))
-inForce false c s = taken (withAir (air free (s .air .waiting) (s .air .pending)) s) [] standby
+inForce false c s = does (withAir (air free (s .air .waiting) (s .air .pending)) s) [] standby
 
 abbrev pub onConfigured : Radio → State → Out
 onConfigured free s = refused PLACE s
 onConfigured (listening t) s = refused PLACE s
 onConfigured (onAir t) s = refused PLACE s
 onConfigured orphan s = refused PLACE s
-onConfigured (configuring c) s = inForce (s .link .session) c s
+onConfigured (configuring c) s = taken (inForce (s .link .session) c s)
 
 -- ---- fault
 
@@ -149,13 +158,13 @@ heard false m = []
 
 -- While configuring, it fails the SET_CONFIG: ERR(ERADIO) with its tag, UNCONFIGURED, standby. Otherwise ERR(ERADIO) comes with tag 0, then the TX with the
 -- radio is reported with 2, and then all goes on as after a TX.
-abbrev pub onFault : Radio → State → Out
+abbrev pub onFault : Radio → State → Done
 onFault free s = afterTx (heard (s .link .session) (err ERADIO 0)) s
 onFault (listening t) s = afterTx (heard (s .link .session) (err ERADIO 0) ++ (txDone CANCELLED 0 t ∷ [])) s
 onFault (onAir t) s = afterTx (heard (s .link .session) (err ERADIO 0) ++ (txDone CANCELLED 0 t ∷ [])) s
 onFault orphan s = afterTx (heard (s .link .session) (err ERADIO 0)) s
 onFault (configuring c) s =
-    taken (withConfig none (withAir (air free (s .air .waiting) (s .air .pending)) s)) (heard (s .link .session) (err ERADIO (c .tag))) standby
+    does (withConfig none (withAir (air free (s .air .waiting) (s .air .pending)) s)) (heard (s .link .session) (err ERADIO (c .tag))) standby
 
 -- ---- packet
 
@@ -167,8 +176,8 @@ cut p =
       snr = p .snr;
       freq-err = p .freq-err;
       time = p .time;
-      crc-valid = p .crc-valid && leb (length (p .bytes)) rxMax;
-      bytes = take rxMax (p .bytes);
+      crc-valid = p .crc-valid && leb (length (p .bytes)) packetMax;
+      bytes = take packetMax (p .bytes);
     }
 
 -- the highest drop count
@@ -183,7 +192,7 @@ kept p i =
 
 -- it fits when receiving is on and the radio is free
 abbrev pub onPacket : Bool → Packet → State → Out
-onPacket true p s = taken (withInbox (kept (cut p) (s .inbox)) s) [] nothing
+onPacket true p s = taken (does (withInbox (kept (cut p) (s .inbox)) s) [] nothing)
 onPacket false p s = refused PLACE s
 
 -- ---- RX_START, RX_STOP
@@ -193,7 +202,7 @@ abbrev pub changed : Bool → Bool → Bool
 changed true was = not was
 changed false was = was
 
-abbrev pub turned : Bool → ℕ → State → Out
+abbrev pub turned : Bool → ℕ → State → Done
 turned on t s =
     says (ok t) (cond (free? (s .air .radio) && changed on (s .inbox .receiving)) (idle on) nothing)
     (withInbox (inbox on (s .inbox .ring) (s .inbox .drops)) s)
@@ -201,8 +210,8 @@ turned on t s =
 -- ---- request
 
 -- the oldest packet goes out with the count, and the count begins anew
-abbrev pub onRequest : List Packet → State → Out
-onRequest [] s = taken s [] nothing
+abbrev pub onRequest : List Packet → State → Done
+onRequest [] s = does s [] nothing
 onRequest (p ∷ ps) s = says (rx p (s .inbox .drops)) nothing (withInbox (inbox (s .inbox .receiving) ps 0) s)
 
 -- ---- tick, disconnect
@@ -216,30 +225,30 @@ ended orphan = orphan
 ended (configuring c) = configuring c
 
 -- Of the rest it leaves nothing: no configuration, no run, no open TX, no waiting SET_CONFIG, no packet. Standby is ordered if the radio is free.
-abbrev pub endSession : Radio → Out
-endSession r = taken (state none silent (air (ended r) [] none) deaf) [] (cond (free? (ended r)) standby nothing)
+abbrev pub endSession : Radio → Done
+endSession r = does (state none silent (air (ended r) [] none) deaf) [] (cond (free? (ended r)) standby nothing)
 
 -- the tick that makes the liveness count 1000 ends the session
 abbrev pub ticksMax : ℕ
 ticksMax = 1000
 
 -- a tick counts in an open session, but not while a SET_CONFIG waits or runs
-abbrev pub onTick : State → Out
+abbrev pub onTick : State → Done
 onTick s =
     cond (s .link .session && not (stalled (s .air)))
     (cond (eqb (suc (s .link .ticks)) ticksMax) (endSession (s .air .radio))
-    (taken (withLink (link true (suc (s .link .ticks)) (s .link .run)) s) [] nothing))
-    (taken s [] nothing)
+    (does (withLink (link true (suc (s .link .ticks)) (s .link .run)) s) [] nothing))
+    (does s [] nothing)
 
 -- with no session open only the run is emptied
-abbrev pub onDisconnect : Bool → State → Out
+abbrev pub onDisconnect : Bool → State → Done
 onDisconnect true s = endSession (s .air .radio)
-onDisconnect false s = taken (withLink (link false (s .link .ticks) []) s) [] nothing
+onDisconnect false s = does (withLink (link false (s .link .ticks) []) s) [] nothing
 
 -- ---- byte
 
 -- a command without objection; a SET_CONFIG empties the ring, clears the count and ends receiving before anything else
-abbrev pub onCommand : Board → ℕ → ℕ → List ℕ → State → Out
+abbrev pub onCommand : Board → ℕ → ℕ → List ℕ → State → Done
 onCommand b kind t p s =
     cond (eqb kind TX) (onTx (txOf t p) (s .air .radio) s)
     (cond (eqb kind SET-CONFIG) (onSet (settingOf t p) (s .air .radio) (withInbox deaf s))
@@ -248,45 +257,45 @@ onCommand b kind t p s =
     (cond (eqb kind GET-INFO) (says (okInfo b t) nothing s)
     (says (ok t) nothing s)))))
 
-abbrev pub unless : Option ℕ → Board → ℕ → ℕ → List ℕ → State → Out
+abbrev pub unless : Option ℕ → Board → ℕ → ℕ → List ℕ → State → Done
 unless (some code) b kind t p s = says (err code t) nothing s
 unless none b kind t p s = onCommand b kind t p s
 
-abbrev pub onReceived : Board → Received → State → Out
+abbrev pub onReceived : Board → Received → State → Done
 onReceived b damaged s = says (err EFRAME 0) nothing s
 onReceived b (command kind t p) s = unless (objection b s kind p) b kind t p s
 
 -- a run that isn't empty opens a session if there is none, sets the liveness count to 0, and is judged; an empty one is nothing
-abbrev pub onRun : Board → List ℕ → State → Out
-onRun b [] s = taken s [] nothing
+abbrev pub onRun : Board → List ℕ → State → Done
+onRun b [] s = does s [] nothing
 onRun b (r ∷ rs) s = onReceived b (received (r ∷ rs)) (withLink (link true 0 []) s)
 
 -- A zero ends the run, and any other byte joins it. The list keeps a run of any length: of one over 282 bytes only the length counts.
-abbrev pub onByte : Board → ℕ → State → Out
+abbrev pub onByte : Board → ℕ → State → Done
 onByte b zero s = onRun b (s .link .run) s
-onByte b (suc n) s = taken (withLink (link (s .link .session) (s .link .ticks) (s .link .run ++ (suc n ∷ []))) s) [] nothing
+onByte b (suc n) s = does (withLink (link (s .link .session) (s .link .ticks) (s .link .run ++ (suc n ∷ []))) s) [] nothing
 
 abbrev pub unlessStalled : Bool → Board → ℕ → State → Out
 unlessStalled true b n s = refused STALL s
-unlessStalled false b n s = onByte b n s
+unlessStalled false b n s = taken (onByte b n s)
 
 -- ---- the ten events
 
 abbrev pub onEvent : Board → Event → State → Out
 onEvent b (byte n) s = unlessStalled (stalled (s .air)) b n s
-onEvent b tick s = onTick s
+onEvent b tick s = taken (onTick s)
 onEvent b clear s = onClear (s .air .radio) s
 onEvent b busy s = onBusy (s .air .radio) s
 onEvent b (sent airtime) s = onSent airtime (s .air .radio) s
 onEvent b configured s = onConfigured (s .air .radio) s
-onEvent b fault s = onFault (s .air .radio) s
+onEvent b fault s = taken (onFault (s .air .radio) s)
 onEvent b (packet p) s = onPacket (s .inbox .receiving && free? (s .air .radio)) p s
-onEvent b request s = onRequest (s .inbox .ring) s
-onEvent b disconnect s = onDisconnect (s .link .session) s
+onEvent b request s = taken (onRequest (s .inbox .ring) s)
+onEvent b disconnect s = taken (onDisconnect (s .link .session) s)
 
 -- the least output that an event takes: the longest frame
 abbrev pub roomMin : ℕ
-roomMin = 283
+roomMin = frameMax
 
 abbrev pub unlessRoom : Bool → Board → Event → State → Out
 unlessRoom true b e s = refused ROOM s

@@ -13,15 +13,14 @@ use Rattle.frame.specs.Body.{payloadOf}
 use Rattle.frame.specs.Reading.{openAnswer}
 use Rattle.frame.specs.declared.Opened.{Opened}
 use Rattle.frame.specs.declared.Opened.the-variants as O
-use Rattle.kind.specs.Kinds.{SET-CONFIG, TX, RX-START, RX-STOP, isCommand}
+use Rattle.kind.specs.Kinds.{SET-CONFIG, TX, RX-START, RX-STOP, isCommand, EPARAM, ELENGTH, ENOTCONFIGURED, EMODULATION, EUNKNOWN-CMD, EBUSY, packetMax}
 use Rattle.modulation.specs.Lora.{loraSize}
 use Rattle.modulation.specs.Fsk.{fskSize, sync-word-len}
 use Rattle.modulation.specs.Modulations.{LORA, FSK, modulation-id, configOf, syncWord}
-use Rattle.command.specs.Commands.{flags, flagsSize, flagsMax, packetMax, packetOf}
+use Rattle.command.specs.Commands.{flags, flagsSize, flagsMax, packetOf}
 use Rattle.board.specs.Board.{Board, txMax}
 use Rattle.board.specs.Params.{paramsGood}
 use Rattle.device.specs.State.{Config, Setting, Tx, State, open#}
-use Rattle.device.specs.Messages.{EPARAM, ELENGTH, ENOTCONFIGURED, EMODULATION, EUNKNOWN-CMD, EBUSY}
 
 -- ---- step 1
 

@@ -1,59 +1,17 @@
--- The messages that the device writes, and their bytes: P 6.7 to 6.10 and 7.
+-- The messages that the device writes, and their bytes: P 6.7 to 6.10.
 -- Assumes nothing.
 use Prim.Native.Nat.{ℕ}
 use mathlib.Core.Bool.{Bool, true, false}
 use mathlib.Core.List.{List, [], _∷_, _++_}
 use Rattle.frame.specs.Body.{body}
 use Rattle.frame.specs.Body as B
+use Rattle.kind.specs.Kinds.{CANCELLED, APPLIED, MINE}
 use Rattle.rx.specs.declared.Rx.{Rx}
 use Rattle.answer.specs.Answers.{answerKind, answerBytes}
 use Rattle.answer.specs.declared.Answer.{Answer}
 use Rattle.answer.specs.declared.Answer.the-variants as A
 use Rattle.board.specs.Board.{Board, infoOf, uidsOf}
 use Rattle.device.specs.State.{Setting, Packet}
-
--- ---- P 7, error codes
-
-abbrev pub EPARAM : ℕ
-EPARAM = 0x0001
-
-abbrev pub ELENGTH : ℕ
-ELENGTH = 0x0002
-
-abbrev pub ENOTCONFIGURED : ℕ
-ENOTCONFIGURED = 0x0003
-
-abbrev pub EMODULATION : ℕ
-EMODULATION = 0x0004
-
-abbrev pub EUNKNOWN-CMD : ℕ
-EUNKNOWN-CMD = 0x0005
-
-abbrev pub EBUSY : ℕ
-EBUSY = 0x0006
-
-abbrev pub ERADIO : ℕ
-ERADIO = 0x0101
-
-abbrev pub EFRAME : ℕ
-EFRAME = 0x0102
-
--- ---- P 6.10, results of a TX; P 6.3, result and owner of a SET_CONFIG
-
-abbrev pub TRANSMITTED : ℕ
-TRANSMITTED = 0
-
-abbrev pub CHANNEL-BUSY : ℕ
-CHANNEL-BUSY = 1
-
-abbrev pub CANCELLED : ℕ
-CANCELLED = 2
-
-abbrev pub APPLIED : ℕ
-APPLIED = 0
-
-abbrev pub MINE : ℕ
-MINE = 1
 
 -- ---- messages
 

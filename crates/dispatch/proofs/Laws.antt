@@ -10,29 +10,29 @@ use borrow.Author.Tests.{eq-eqb, ne-eqb}
 use lib.Dec.{leb, eqb}
 use lib.ListN.{length}
 use Rattle.form.proofs.Laws.{exactly-size}
-use Rattle.kind.specs.Kinds.{GET-INFO, SET-CONFIG, TX, RX-START, RX-STOP, isCommand}
+use Rattle.kind.specs.Kinds.{GET-INFO, SET-CONFIG, TX, RX-START, RX-STOP, isCommand, EPARAM, ELENGTH, ENOTCONFIGURED, EMODULATION, EUNKNOWN-CMD, EBUSY}
 use Rattle.modulation.specs.Modulations.{configForm}
 use Rattle.modulation.proofs.Laws.{form-bounds}
 use Rattle.board.specs.Board.{Board, sx1262, txMax}
-use Rattle.device.specs.Messages.{seen, ok, okInfo, err, EPARAM, ELENGTH, ENOTCONFIGURED, EMODULATION, EUNKNOWN-CMD, EBUSY}
+use Rattle.device.specs.Messages.{seen, ok, okInfo, err}
 use Rattle.device.specs.Frames.{needsConfig, strange, sized, good, objects}
 use Rattle.objection.specs.Objection.{codeOf}
 use Rattle.objection.proofs.Laws.{none-tx, none-set}
 use Rattle.control.specs.declared.Device.{Device}
 use Rattle.control.specs.declared.Order.the-variants.{Nothing}
-use Rattle.control.specs.declared.Answer.{Answer}
-use Rattle.control.specs.Control.{unconfigured, Done, taken, Gives}
+use Rattle.control.specs.declared.Taken.{Taken}
+use Rattle.control.specs.Control.{unconfigured, Done, does, Gives}
 use Rattle.intake.specs.Intake.{Ruled, ruled, open#, onTx, onSet, Rules}
 use Rattle.dispatch.specs.Commands.{turned, atOnce, onCommand, unless, judged}
 
 -- ---- what a command gives
 
 -- by another name
-pub rules : {x : Ruled} (y : Ruled) {o o' m' : List ℕ} {r : Answer} → x ≡ y → Rules y o r o' m' → Rules x o r o' m'
+pub rules : {x : Ruled} (y : Ruled) {o o' m' : List ℕ} {r : Taken} → x ≡ y → Rules y o r o' m' → Rules x o r o' m'
 rules y e g = rw e g
 
 -- the memory of commands stays
-pub rules-only : {x : Done} {o o' m : List ℕ} {r : Answer} → Gives x o 0 r o' → Rules (ruled x m) o r o' m
+pub rules-only : {x : Done} {o o' m : List ℕ} {r : Taken} → Gives x o 0 r o' → Rules (ruled x m) o r o' m
 rules-only g = record { gives = g; commands = refl }
 
 -- ---- the objection
@@ -54,7 +54,7 @@ no-code b bare n kind p =
 
 -- an objection with a code draws an ERR
 with-code : (o : Option ℕ) (kind t : ℕ) (p m : List ℕ) (d : Device) → (codeOf o ≡ 0 → ⊥)
-    → unless o kind t p m d ≡ ruled (taken d (seen (err (codeOf o) t) ∷ []) Nothing) m
+    → unless o kind t p m d ≡ ruled (does d (seen (err (codeOf o) t) ∷ []) Nothing) m
 with-code none kind t p m d h = absurd (h refl)
 with-code (some code) kind t p m d h = refl
 
@@ -80,11 +80,11 @@ module _ (kind : ℕ) (p : List ℕ) (d : Device) {bare : Bool} {n code : ℕ} (
       (omega arith, omega arith)
 
   module _ (t : ℕ) (m : List ℕ) where
-    pub as-err : (code ≡ 0 → ⊥) → judged kind t p m d ≡ ruled (taken d (seen (err code t) ∷ []) Nothing) m
+    pub as-err : (code ≡ 0 → ⊥) → judged kind t p m d ≡ ruled (does d (seen (err code t) ∷ []) Nothing) m
     unfolding judged
     as-err h =
         with-code (objects sx1262 (unconfigured (d .mode)) (open# (d .air)) kind p) kind t p m d (λ z. h (same-code ∙ z))
-        ∙ ap (λ (k : ℕ). ruled (taken d (seen (err k t) ∷ []) Nothing) m) (sym same-code)
+        ∙ ap (λ (k : ℕ). ruled (does d (seen (err k t) ∷ []) Nothing) m) (sym same-code)
 
     -- and without objection, by its type
     module _ (z : code ≡ 0) where
@@ -115,10 +115,10 @@ module _ (kind t : ℕ) (d : Device) where
     as-stop e = simp (ne-eqb kind RX-START not-start, eq-eqb kind RX-STOP e)
 
     module _ (not-stop : kind ≡ RX-STOP → ⊥) where
-      pub as-info : kind ≡ GET-INFO → atOnce kind t d ≡ taken d (seen (okInfo sx1262 t) ∷ []) Nothing
+      pub as-info : kind ≡ GET-INFO → atOnce kind t d ≡ does d (seen (okInfo sx1262 t) ∷ []) Nothing
       unfolding atOnce
       as-info e = simp (ne-eqb kind RX-START not-start, ne-eqb kind RX-STOP not-stop, eq-eqb kind GET-INFO e)
 
-      pub as-ping : (kind ≡ GET-INFO → ⊥) → atOnce kind t d ≡ taken d (seen (ok t) ∷ []) Nothing
+      pub as-ping : (kind ≡ GET-INFO → ⊥) → atOnce kind t d ≡ does d (seen (ok t) ∷ []) Nothing
       unfolding atOnce
       as-ping e = simp (ne-eqb kind RX-START not-start, ne-eqb kind RX-STOP not-stop, ne-eqb kind GET-INFO e)

@@ -5,21 +5,21 @@ use mathlib.Core.Bool.{Bool, true, false, cond, _&&_}
 use mathlib.Core.List.{List, [], _∷_}
 use mathlib.Core.Option.{Option, none, some}
 use lib.Dec.{eqb}
-use Rattle.kind.specs.Kinds.{GET-INFO, SET-CONFIG, TX, RX-START, RX-STOP}
+use Rattle.kind.specs.Kinds.{GET-INFO, SET-CONFIG, TX, RX-START, RX-STOP, EFRAME}
 use Rattle.board.specs.Board.{sx1262}
-use Rattle.device.specs.Messages.{seen, ok, okInfo, err, EFRAME}
+use Rattle.device.specs.Messages.{seen, ok, okInfo, err}
 use Rattle.device.specs.Frames.{Received, damaged, command, objects}
 use Rattle.device.specs.Events.{changed}
 use Rattle.control.specs.declared.Device.{Device}
 use Rattle.control.specs.declared.Order.the-variants.{Nothing}
-use Rattle.control.specs.Control.{inbox, withInbox, unconfigured, free?, Done, taken, idle}
+use Rattle.control.specs.Control.{inbox, withInbox, unconfigured, free?, Done, does, idle}
 use Rattle.intake.specs.Intake.{Ruled, ruled, open#, onTx, onSet}
 
 -- ---- RX_START, RX_STOP
 
 unfoldable pub turned : Bool → ℕ → Device → Done
 turned on t d =
-    taken (withInbox d (inbox on (d .inbox .first) (d .inbox .held) (d .inbox .drops))) (seen (ok t) ∷ [])
+    does (withInbox d (inbox on (d .inbox .first) (d .inbox .held) (d .inbox .drops))) (seen (ok t) ∷ [])
     (cond (free? (d .air .radio) && changed on (d .inbox .receiving)) (idle on) Nothing)
 
 -- ---- what is answered at once: RX_START, RX_STOP, GET_INFO, PING
@@ -28,8 +28,8 @@ unfoldable pub atOnce : ℕ → ℕ → Device → Done
 atOnce kind t d =
     cond (eqb kind RX-START) (turned true t d)
     (cond (eqb kind RX-STOP) (turned false t d)
-    (cond (eqb kind GET-INFO) (taken d (seen (okInfo sx1262 t) ∷ []) Nothing)
-    (taken d (seen (ok t) ∷ []) Nothing)))
+    (cond (eqb kind GET-INFO) (does d (seen (okInfo sx1262 t) ∷ []) Nothing)
+    (does d (seen (ok t) ∷ []) Nothing)))
 
 -- ---- any command
 
@@ -41,12 +41,12 @@ onCommand kind t p m d =
 
 -- an objection draws an ERR, and does nothing else
 abbrev pub unless : Option ℕ → ℕ → ℕ → List ℕ → List ℕ → Device → Ruled
-unless (some code) kind t p m d = ruled (taken d (seen (err code t) ∷ []) Nothing) m
+unless (some code) kind t p m d = ruled (does d (seen (err code t) ∷ []) Nothing) m
 unless none kind t p m d = onCommand kind t p m d
 
 unfoldable pub judged : ℕ → ℕ → List ℕ → List ℕ → Device → Ruled
 judged kind t p m d = unless (objects sx1262 (unconfigured (d .mode)) (open# (d .air)) kind p) kind t p m d
 
 abbrev pub onReceived : Received → List ℕ → Device → Ruled
-onReceived damaged m d = ruled (taken d (seen (err EFRAME 0) ∷ []) Nothing) m
+onReceived damaged m d = ruled (does d (seen (err EFRAME 0) ∷ []) Nothing) m
 onReceived (command kind t p) m d = judged kind t p m d

@@ -3,17 +3,18 @@
 ghost use mathlib.Core.Path.{_≡_};
 ghost use Prim.Native.Nat.{_≤_};
 ghost use lib.ListN.{length};
+ghost use Rattle.device.specs.Events.{roomMin};
 ghost use Rattle.device.specs.Events as E;
 ghost use Rattle.control.specs.Control.{Gives, unconfigured};
 ghost use Rattle.intake.specs.Intake.{Rules, open#};
 ghost use Rattle.dispatch.specs.Commands.{turned, atOnce, judged};
 use control::Air;
-use control::Answer;
 use control::Device;
 use control::Inbox;
 use control::Mode;
 use control::Order;
 use control::Radio;
+use control::Taken;
 use kind::GET_INFO;
 use kind::OK;
 use kind::RX_START;
@@ -31,8 +32,8 @@ pub fn dispatch(
     payload: &[u8],
     commands: &mut [u8; COMMANDS],
     out: &mut [u8],
-) -> Answer
-    requires { ⌜ 283 ≤ length (now out) ⌝ }
+) -> Taken
+    requires { ⌜ roomMin ≤ length (now out) ⌝ }
     ensures { λ r. ⌜ Rules (judged kind tag (now (payload .entry)) (now (commands .entry)) d) (now (out .entry)) r (now (out .exit)) (now (commands .exit)) ⌝ }
 {
     let mode = d.mode;
@@ -42,7 +43,7 @@ pub fn dispatch(
     let code = objection::objection(bare, count, kind, payload);
     if code != objection::NONE {
         let w = wire::say_err(code, tag, out, 0);
-        return control::accept(d, w, Order::Nothing);
+        return control::done(d, w, Order::Nothing);
     }
     if kind == TX {
         return intake::tx(d, tag, payload, commands, out);
@@ -54,8 +55,8 @@ pub fn dispatch(
 }
 
 // A command that is answered at once.
-fn at_once(d: Device, kind: u8, tag: u16, out: &mut [u8]) -> Answer
-    requires { ⌜ 283 ≤ length (now out) ⌝ }
+fn at_once(d: Device, kind: u8, tag: u16, out: &mut [u8]) -> Taken
+    requires { ⌜ roomMin ≤ length (now out) ⌝ }
     ensures { λ r. ⌜ Gives (atOnce kind tag d) (now (out .entry)) 0 r (now (out .exit)) ⌝ }
 {
     if kind == RX_START {
@@ -67,10 +68,10 @@ fn at_once(d: Device, kind: u8, tag: u16, out: &mut [u8]) -> Answer
     if kind == GET_INFO {
         let info = board::info();
         let w = wire::say(OK, tag, &info, out, 0);
-        return control::accept(d, w, Order::Nothing);
+        return control::done(d, w, Order::Nothing);
     }
     let w = wire::say_ok(tag, out, 0);
-    control::accept(d, w, Order::Nothing)
+    control::done(d, w, Order::Nothing)
 }
 
 // Whether a device is UNCONFIGURED.
@@ -100,8 +101,8 @@ fn count_open(a: Air) -> usize
 }
 
 // RX_START and RX_STOP: receiving is turned on or off.
-fn turn(d: Device, on: bool, tag: u16, out: &mut [u8]) -> Answer
-    requires { ⌜ 283 ≤ length (now out) ⌝ }
+fn turn(d: Device, on: bool, tag: u16, out: &mut [u8]) -> Taken
+    requires { ⌜ roomMin ≤ length (now out) ⌝ }
     ensures { λ r. ⌜ Gives (turned on tag d) (now (out .entry)) 0 r (now (out .exit)) ⌝ }
 {
     let was = d.inbox;
@@ -116,9 +117,9 @@ fn turn(d: Device, on: bool, tag: u16, out: &mut [u8]) -> Answer
     };
     let e = control::with_inbox(d, inbox);
     if control::is_free(radio) & changed(on, was.receiving) {
-        return control::accept(e, w, control::idle(on));
+        return control::done(e, w, control::idle(on));
     }
-    control::accept(e, w, Order::Nothing)
+    control::done(e, w, Order::Nothing)
 }
 
 // Whether turning receiving on or off is a change.

@@ -1,8 +1,8 @@
 // Power-up, and the events of the host's side, for callers that keep the state in words: byte, tick,
 // disconnect, request.
 ghost use mathlib.Core.Path.{_≡_};
-ghost use Rattle.device.specs.State as S;
-ghost use Rattle.dongle.specs.Calls.{lent, first, Quiet, Feeds, Delivers};
+ghost use Rattle.session.specs.Session.{tickOut, disconnectOut};
+ghost use Rattle.dongle.specs.Calls.{first, stateCall, byteCall, requestCall};
 use inbox::PACKETS;
 use link::RUN_MAX;
 use slot::COMMANDS;
@@ -16,7 +16,7 @@ pub fn power_up(
     commands: &mut [u8; COMMANDS],
     packets: &mut [u8; PACKETS],
 )
-    ensures { λ _. ⌜ lent (now (control .exit)) (now (run .exit)) (now (commands .exit)) (now (packets .exit)) ≡ first ⌝ }
+    ensures { λ _. ⌜ first ≡ record { control = now (control .exit); run = now (run .exit); commands = now (commands .exit); packets = now (packets .exit) } ⌝ }
 {
     *control = words::control_words(control::power_up());
     *run = link::empty_run();
@@ -33,7 +33,14 @@ pub fn byte(
     out: &mut [u8],
     answer: &mut [u64; ANSWER],
 )
-    ensures { λ _. ⌜ Feeds b (now (control .entry)) (now (run .entry)) (now (commands .entry)) (now (out .entry)) (now (control .exit)) (now (run .exit)) (now (commands .exit)) (now (out .exit)) (now (answer .exit)) ⌝ }
+    ensures { λ _. ⌜ byteCall b (record { control = now (control .entry); run = now (run .entry); commands = now (commands .entry); out = now (out .entry) })
+        ≡ record {
+          control = now (control .exit);
+          run = now (run .exit);
+          commands = now (commands .exit);
+          out = now (out .exit);
+          answer = now (answer .exit);
+        } ⌝ }
 {
     if b == 0 {
         let d = words::device_of(control);
@@ -48,7 +55,8 @@ pub fn byte(
 
 // A millisecond has passed.
 pub fn tick(control: &mut [u64; CONTROL], room: usize, answer: &mut [u64; ANSWER])
-    ensures { λ _. ⌜ Quiet S.tick room (now (control .entry)) (now (control .exit)) (now (answer .exit)) ⌝ }
+    ensures { λ _. ⌜ stateCall tickOut (record { control = now (control .entry); room = room })
+        ≡ record { control = now (control .exit); answer = now (answer .exit) } ⌝ }
 {
     let d = words::device_of(control);
     let a = session::tick(d, room);
@@ -57,7 +65,8 @@ pub fn tick(control: &mut [u64; CONTROL], room: usize, answer: &mut [u64; ANSWER
 
 // The host is gone.
 pub fn disconnect(control: &mut [u64; CONTROL], room: usize, answer: &mut [u64; ANSWER])
-    ensures { λ _. ⌜ Quiet S.disconnect room (now (control .entry)) (now (control .exit)) (now (answer .exit)) ⌝ }
+    ensures { λ _. ⌜ stateCall disconnectOut (record { control = now (control .entry); room = room })
+        ≡ record { control = now (control .exit); answer = now (answer .exit) } ⌝ }
 {
     let d = words::device_of(control);
     let a = session::disconnect(d, room);
@@ -71,7 +80,8 @@ pub fn request(
     out: &mut [u8],
     answer: &mut [u64; ANSWER],
 )
-    ensures { λ _. ⌜ Delivers (now (control .entry)) (now (packets .entry)) (now (out .entry)) (now (control .exit)) (now (packets .exit)) (now (out .exit)) (now (answer .exit)) ⌝ }
+    ensures { λ _. ⌜ requestCall (record { control = now (control .entry); packets = now (packets .entry); out = now (out .entry) })
+        ≡ record { control = now (control .exit); packets = now (packets .exit); out = now (out .exit); answer = now (answer .exit) } ⌝ }
 {
     let d = words::device_of(control);
     let a = inbox::request(d, packets, out);

@@ -1,9 +1,11 @@
 // Power-up and the ten events, for C: each is the function of its name in crate dongle or radio, with
 // the same contract.
 ghost use mathlib.Core.Path.{_≡_};
-ghost use Rattle.device.specs.State as S;
+ghost use Rattle.outcome.specs.Outcomes.{clearOut, busyOut, sentOut, faultOut};
+ghost use Rattle.configured.specs.Configured.{configuredOut};
+ghost use Rattle.session.specs.Session.{tickOut, disconnectOut};
 ghost use Rattle.inbox.specs.Packets.{packetOf};
-ghost use Rattle.dongle.specs.Calls.{lent, first, Quiet, Speaks, Feeds, Keeps, Delivers};
+ghost use Rattle.dongle.specs.Calls.{first, stateCall, byteCall, outcomeCall, packetCall, requestCall};
 ghost use Rattle.radio.specs.Heard.{heardIn};
 use inbox::PACKETS;
 use link::RUN_MAX;
@@ -20,7 +22,7 @@ pub extern "C" fn donglora_power_up(
     commands: &mut [u8; COMMANDS],
     packets: &mut [u8; PACKETS],
 )
-    ensures { λ _. ⌜ lent (now (control .exit)) (now (run .exit)) (now (commands .exit)) (now (packets .exit)) ≡ first ⌝ }
+    ensures { λ _. ⌜ first ≡ record { control = now (control .exit); run = now (run .exit); commands = now (commands .exit); packets = now (packets .exit) } ⌝ }
 {
     dongle::power_up(control, run, commands, packets);
 }
@@ -35,7 +37,14 @@ pub extern "C" fn donglora_byte(
     out: &mut [u8],
     answer: &mut [u64; ANSWER],
 )
-    ensures { λ _. ⌜ Feeds b (now (control .entry)) (now (run .entry)) (now (commands .entry)) (now (out .entry)) (now (control .exit)) (now (run .exit)) (now (commands .exit)) (now (out .exit)) (now (answer .exit)) ⌝ }
+    ensures { λ _. ⌜ byteCall b (record { control = now (control .entry); run = now (run .entry); commands = now (commands .entry); out = now (out .entry) })
+        ≡ record {
+          control = now (control .exit);
+          run = now (run .exit);
+          commands = now (commands .exit);
+          out = now (out .exit);
+          answer = now (answer .exit);
+        } ⌝ }
 {
     dongle::byte(control, b, run, commands, out, answer);
 }
@@ -47,7 +56,8 @@ pub extern "C" fn donglora_tick(
     room: usize,
     answer: &mut [u64; ANSWER],
 )
-    ensures { λ _. ⌜ Quiet S.tick room (now (control .entry)) (now (control .exit)) (now (answer .exit)) ⌝ }
+    ensures { λ _. ⌜ stateCall tickOut (record { control = now (control .entry); room = room })
+        ≡ record { control = now (control .exit); answer = now (answer .exit) } ⌝ }
 {
     dongle::tick(control, room, answer);
 }
@@ -59,7 +69,8 @@ pub extern "C" fn donglora_disconnect(
     room: usize,
     answer: &mut [u64; ANSWER],
 )
-    ensures { λ _. ⌜ Quiet S.disconnect room (now (control .entry)) (now (control .exit)) (now (answer .exit)) ⌝ }
+    ensures { λ _. ⌜ stateCall disconnectOut (record { control = now (control .entry); room = room })
+        ≡ record { control = now (control .exit); answer = now (answer .exit) } ⌝ }
 {
     dongle::disconnect(control, room, answer);
 }
@@ -71,7 +82,8 @@ pub extern "C" fn donglora_clear(
     room: usize,
     answer: &mut [u64; ANSWER],
 )
-    ensures { λ _. ⌜ Quiet S.clear room (now (control .entry)) (now (control .exit)) (now (answer .exit)) ⌝ }
+    ensures { λ _. ⌜ stateCall clearOut (record { control = now (control .entry); room = room })
+        ≡ record { control = now (control .exit); answer = now (answer .exit) } ⌝ }
 {
     radio::clear(control, room, answer);
 }
@@ -84,7 +96,8 @@ pub extern "C" fn donglora_busy(
     out: &mut [u8],
     answer: &mut [u64; ANSWER],
 )
-    ensures { λ _. ⌜ Speaks S.busy (now (control .entry)) (now (commands .entry)) (now (out .entry)) (now (control .exit)) (now (out .exit)) (now (answer .exit)) ⌝ }
+    ensures { λ _. ⌜ outcomeCall busyOut (record { control = now (control .entry); commands = now (commands .entry); out = now (out .entry) })
+        ≡ record { control = now (control .exit); out = now (out .exit); answer = now (answer .exit) } ⌝ }
 {
     radio::busy(control, commands, out, answer);
 }
@@ -98,7 +111,8 @@ pub extern "C" fn donglora_sent(
     out: &mut [u8],
     answer: &mut [u64; ANSWER],
 )
-    ensures { λ _. ⌜ Speaks (S.sent airtime) (now (control .entry)) (now (commands .entry)) (now (out .entry)) (now (control .exit)) (now (out .exit)) (now (answer .exit)) ⌝ }
+    ensures { λ _. ⌜ outcomeCall (sentOut airtime) (record { control = now (control .entry); commands = now (commands .entry); out = now (out .entry) })
+        ≡ record { control = now (control .exit); out = now (out .exit); answer = now (answer .exit) } ⌝ }
 {
     radio::sent(control, airtime, commands, out, answer);
 }
@@ -111,7 +125,8 @@ pub extern "C" fn donglora_configured(
     out: &mut [u8],
     answer: &mut [u64; ANSWER],
 )
-    ensures { λ _. ⌜ Speaks S.configured (now (control .entry)) (now (commands .entry)) (now (out .entry)) (now (control .exit)) (now (out .exit)) (now (answer .exit)) ⌝ }
+    ensures { λ _. ⌜ outcomeCall configuredOut (record { control = now (control .entry); commands = now (commands .entry); out = now (out .entry) })
+        ≡ record { control = now (control .exit); out = now (out .exit); answer = now (answer .exit) } ⌝ }
 {
     radio::configured(control, commands, out, answer);
 }
@@ -124,7 +139,8 @@ pub extern "C" fn donglora_fault(
     out: &mut [u8],
     answer: &mut [u64; ANSWER],
 )
-    ensures { λ _. ⌜ Speaks S.fault (now (control .entry)) (now (commands .entry)) (now (out .entry)) (now (control .exit)) (now (out .exit)) (now (answer .exit)) ⌝ }
+    ensures { λ _. ⌜ outcomeCall faultOut (record { control = now (control .entry); commands = now (commands .entry); out = now (out .entry) })
+        ≡ record { control = now (control .exit); out = now (out .exit); answer = now (answer .exit) } ⌝ }
 {
     radio::fault(control, commands, out, answer);
 }
@@ -139,7 +155,9 @@ pub extern "C" fn donglora_packet(
     room: usize,
     answer: &mut [u64; ANSWER],
 )
-    ensures { λ _. ⌜ Keeps (packetOf (heardIn heard) (now (bytes .entry))) (now (control .entry)) (now (packets .entry)) room (now (control .exit)) (now (packets .exit)) (now (answer .exit)) ⌝ }
+    ensures { λ _. ⌜ packetCall (packetOf (heardIn heard) (now (bytes .entry)))
+        (record { control = now (control .entry); packets = now (packets .entry); room = room })
+        ≡ record { control = now (control .exit); packets = now (packets .exit); answer = now (answer .exit) } ⌝ }
 {
     radio::packet(control, heard, bytes, packets, room, answer);
 }
@@ -152,7 +170,8 @@ pub extern "C" fn donglora_request(
     out: &mut [u8],
     answer: &mut [u64; ANSWER],
 )
-    ensures { λ _. ⌜ Delivers (now (control .entry)) (now (packets .entry)) (now (out .entry)) (now (control .exit)) (now (packets .exit)) (now (out .exit)) (now (answer .exit)) ⌝ }
+    ensures { λ _. ⌜ requestCall (record { control = now (control .entry); packets = now (packets .entry); out = now (out .entry) })
+        ≡ record { control = now (control .exit); packets = now (packets .exit); out = now (out .exit); answer = now (answer .exit) } ⌝ }
 {
     dongle::request(control, packets, out, answer);
 }

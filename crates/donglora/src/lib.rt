@@ -2,12 +2,14 @@
 // contract of the function that it calls.
 ghost use mathlib.Core.Path.{_≡_};
 ghost use lib.ListN.{length};
+ghost use Rattle.numbers.specs.Came.{valueOr};
 ghost use Rattle.crc16.specs.Crc.{crcOf};
 ghost use Rattle.cobs.specs.Decoding.{decoded};
-ghost use Rattle.cobs.specs.Answers.{encodeAnswer, encodeLeft, encodeNumber, decodeAnswer, decodeLeft, decodeNumber};
+ghost use Rattle.cobs.specs.Answers.{encodeAnswer, encodeLeft, encodedSays, decodeAnswer, decodeLeft, decodedSays};
+ghost use Rattle.frame.specs.Writing.{writtenSays};
+ghost use Rattle.frame.specs.Reading.{openedSays};
 ghost use Rattle.reader.specs.Reading.{receiveAnswer, receiveLeft};
 ghost use Rattle.writer.specs.Writing.{writeAnswer, writeLeft};
-ghost use Rattle.host.specs.Written.{encodeWritten, decodeWritten, writeNumber, writeWritten};
 ghost use Rattle.host.specs.Reports.{nameIn, messageReport, rxReport, txDoneReport};
 
 // Public for crate exported, which says of each call that C can make what its types say.
@@ -29,9 +31,9 @@ pub extern "C" fn donglora_crc16(src: &[u8]) -> u16
 // Encodes src into dst, and stores the count of bytes in written.
 #[no_mangle]
 pub extern "C" fn donglora_cobs_encode(src: &[u8], dst: &mut [u8], written: &mut usize) -> u8
-    ensures { λ r. ⌜ r ≡ encodeNumber (encodeAnswer (now (src .entry)) (length (now (dst .entry)))) ⌝ }
+    ensures { λ r. ⌜ r ≡ encodedSays (encodeAnswer (now (src .entry)) (length (now (dst .entry)))) .number ⌝ }
     ensures { λ r. ⌜ now (dst .exit) ≡ encodeLeft (now (src .entry)) (now (dst .entry)) ⌝ }
-    ensures { λ r. ⌜ now (written .exit) ≡ encodeWritten (encodeAnswer (now (src .entry)) (length (now (dst .entry)))) (now (written .entry)) ⌝ }
+    ensures { λ r. ⌜ now (written .exit) ≡ valueOr (encodedSays (encodeAnswer (now (src .entry)) (length (now (dst .entry)))) .value) (now (written .entry)) ⌝ }
 {
     host::cobs_encode(src, dst, written)
 }
@@ -39,9 +41,9 @@ pub extern "C" fn donglora_cobs_encode(src: &[u8], dst: &mut [u8], written: &mut
 // Decodes src into dst, and stores the count of bytes in written.
 #[no_mangle]
 pub extern "C" fn donglora_cobs_decode(src: &[u8], dst: &mut [u8], written: &mut usize) -> u8
-    ensures { λ r. ⌜ r ≡ decodeNumber (decodeAnswer (now (src .entry)) (length (now (dst .entry)))) ⌝ }
+    ensures { λ r. ⌜ r ≡ decodedSays (decodeAnswer (now (src .entry)) (length (now (dst .entry)))) .number ⌝ }
     ensures { λ r. ⌜ now (dst .exit) ≡ decodeLeft (now (src .entry)) (now (dst .entry)) ⌝ }
-    ensures { λ r. ⌜ now (written .exit) ≡ decodeWritten (decodeAnswer (now (src .entry)) (length (now (dst .entry)))) (now (written .entry)) ⌝ }
+    ensures { λ r. ⌜ now (written .exit) ≡ valueOr (decodedSays (decodeAnswer (now (src .entry)) (length (now (dst .entry)))) .value) (now (written .entry)) ⌝ }
 {
     host::cobs_decode(src, dst, written)
 }
@@ -56,9 +58,10 @@ pub extern "C" fn donglora_write_command(
     dst: &mut [u8],
     written: &mut usize,
 ) -> u8
-    ensures { λ r. ⌜ r ≡ writeNumber (writeAnswer Kinds.Commands kind tag (now (payload .entry)) (length (now (dst .entry)))) ⌝ }
+    ensures { λ r. ⌜ r ≡ writtenSays (writeAnswer Kinds.Commands kind tag (now (payload .entry)) (length (now (dst .entry)))) .number ⌝ }
     ensures { λ r. ⌜ now (dst .exit) ≡ writeLeft Kinds.Commands kind tag (now (payload .entry)) (now (dst .entry)) ⌝ }
-    ensures { λ r. ⌜ now (written .exit) ≡ writeWritten (writeAnswer Kinds.Commands kind tag (now (payload .entry)) (length (now (dst .entry)))) (now (written .entry)) ⌝ }
+    ensures { λ r. ⌜ now (written .exit)
+        ≡ valueOr (writtenSays (writeAnswer Kinds.Commands kind tag (now (payload .entry)) (length (now (dst .entry)))) .value) (now (written .entry)) ⌝ }
 {
     host::write_command(kind, tag, payload, dst, written)
 }
@@ -67,7 +70,7 @@ pub extern "C" fn donglora_write_command(
 // body.
 #[no_mangle]
 pub extern "C" fn donglora_read_answer(command: u8, run: &[u8], body: &mut [u8]) -> MessageReport
-    ensures { λ r. ⌜ r ≡ messageReport (receiveAnswer (Kinds.Answers (nameIn command)) (now (run .entry)) (length (now (body .entry)))) ⌝ }
+    ensures { λ r. ⌜ r ≡ messageReport (openedSays (receiveAnswer (Kinds.Answers (nameIn command)) (now (run .entry)) (length (now (body .entry))))) ⌝ }
     ensures { λ r. ⌜ now (body .exit) ≡ receiveLeft (Kinds.Answers (nameIn command)) (now (run .entry)) (now (body .entry)) ⌝ }
 {
     host::read_answer(command, run, body)
@@ -76,7 +79,7 @@ pub extern "C" fn donglora_read_answer(command: u8, run: &[u8], body: &mut [u8])
 // Reads the frame of an RX, and puts its body at the start of body.
 #[no_mangle]
 pub extern "C" fn donglora_read_rx(run: &[u8], body: &mut [u8]) -> RxReport
-    ensures { λ r. ⌜ r ≡ rxReport (receiveAnswer Kinds.Rx (now (run .entry)) (length (now (body .entry)))) (decoded (now (run .entry))) ⌝ }
+    ensures { λ r. ⌜ r ≡ rxReport (openedSays (receiveAnswer Kinds.Rx (now (run .entry)) (length (now (body .entry))))) (decoded (now (run .entry))) ⌝ }
     ensures { λ r. ⌜ now (body .exit) ≡ receiveLeft Kinds.Rx (now (run .entry)) (now (body .entry)) ⌝ }
 {
     host::read_rx(run, body)
@@ -85,7 +88,7 @@ pub extern "C" fn donglora_read_rx(run: &[u8], body: &mut [u8]) -> RxReport
 // Reads the frame of a TX_DONE, and puts its body at the start of body.
 #[no_mangle]
 pub extern "C" fn donglora_read_tx_done(run: &[u8], body: &mut [u8]) -> TxDoneReport
-    ensures { λ r. ⌜ r ≡ txDoneReport (receiveAnswer Kinds.TxDone (now (run .entry)) (length (now (body .entry)))) (decoded (now (run .entry))) ⌝ }
+    ensures { λ r. ⌜ r ≡ txDoneReport (openedSays (receiveAnswer Kinds.TxDone (now (run .entry)) (length (now (body .entry))))) (decoded (now (run .entry))) ⌝ }
     ensures { λ r. ⌜ now (body .exit) ≡ receiveLeft Kinds.TxDone (now (run .entry)) (now (body .entry)) ⌝ }
 {
     host::read_tx_done(run, body)

@@ -19,11 +19,13 @@ use Rattle.device.proofs.History as H
 use Rattle.device.proofs.Carrying.{InStep, given-in, demand1-seen-carried, contents-carried, demand2-seen-carried, demand2-wire-carried, demand3-carried, in-time-carried, drop-count-carried}
 use Rattle.control.specs.declared.Radio.{Radio}
 use Rattle.control.specs.declared.Device.{Device}
-use Rattle.words.specs.Words.{radioTag, controlWords, answerWords}
+use Rattle.control.specs.Control.{answerNumbers}
+use Rattle.words.specs.Words.{radioTag, controlWords, orderFrom}
 use Rattle.words.specs.Ranges.{DeviceIn}
 use Rattle.words.proofs.Laws.{round-trip, order-back}
-use Rattle.machine.specs.Machine.{Machine, machine, Call, runs}
-use Rattle.dongle.specs.Calls.{Lent, lent, first, machineIn, Left, left, inWords, called}
+use Rattle.machine.specs.Machine.{Machine, Call, runs}
+use Rattle.dongle.specs.Calls.{Dongle, first, machineIn, Left, inWords, called}
+use Rattle.dongle.proofs.Calls.{called-runs}
 use Rattle.joint.specs.Seen.{replyOf}
 use Rattle.joint.specs.Joined.{zeros, started, inputOf, CallIn, replies}
 use Rattle.joint.specs.Named.{BytesStay, Uninterrupted}
@@ -34,7 +36,7 @@ use Rattle.joint.proofs.Demands.{in-step}
 use Rattle.joint.proofs.Refusals as R
 use Rattle.joint.proofs.Output as Output
 use Rattle.joint.proofs.Named.{InCode, stay-in-code, alone-in-code}
-use Rattle.exported.specs.Exported.{replyFrom, exported, answers, Joined, refusalWords, settled, Demand1, Unchanged, Demand2, RestStays, exportedOrders}
+use Rattle.exported.specs.Exported.{replyFrom, exported, answers, Joined, numberIn, settled, refusal, Demand1, Unchanged, Demand2, RestStays, exportedOrders}
 
 -- ---- a state that can be reached has numbers of its types
 
@@ -68,31 +70,39 @@ numbers-small {y} {s} h =
 -- ---- one call
 
 -- what joins a dongle of C to a state of the definition: the machine that it is stands for the state, and its words are the library's own
-record Joins (y : Lent) (s : State) : Type 0 where
+record Joins (y : Dongle) (s : State) : Type 0 where
   meets : Meets (machineIn y) s
   own : settled y ≡ y
 
+-- a machine with another state
+abbrev with-device : Machine → Device → Machine
+with-device x d = record { device = d; run = x .run; commands = x .commands; packets = x .packets }
+
 -- the answer's words tell what the code answers
-same-words : (y : Lent) (c : Call) → replyFrom (called y c) ≡ replyOf (runs (machineIn y) c)
-unfolding replyFrom called replyOf answerWords
-same-words y c = rw (order-back (runs (machineIn y) c .answer)) refl
+same-words : (y : Dongle) (c : Call) → replyFrom (called y c) ≡ replyOf (runs (machineIn y) c)
+unfolding replyFrom replyOf answerNumbers
+same-words y c = ap replyFrom (called-runs y c) ∙ rw (order-back (runs (machineIn y) c .answer)) refl
 
--- a machine whose state goes into words and comes back
-back : (x : Machine) → DeviceIn (x .device) → machineIn (lent (controlWords (x .device)) (x .run) (x .commands) (x .packets)) ≡ x
-back x h = ap (λ (d : Device). machine d (x .run) (x .commands) (x .packets)) (round-trip (x .device) h)
+-- a machine in words
+abbrev worded : Machine → Dongle
+worded x = record { control = controlWords (x .device); run = x .run; commands = x .commands; packets = x .packets }
 
-own-words : (x : Machine) → DeviceIn (x .device)
-    → let y = lent (controlWords (x .device)) (x .run) (x .commands) (x .packets) in settled y ≡ y
-own-words x h = ap (λ (d : Device). lent (controlWords d) (x .run) (x .commands) (x .packets)) (round-trip (x .device) h)
+-- one whose state comes back from its words
+back : (x : Machine) → DeviceIn (x .device) → machineIn (worded x) ≡ x
+back x h = ap (λ (d : Device). with-device x d) (round-trip (x .device) h)
 
-in-words : (x : Machine) (s : State) → Meets x s → Joins (lent (controlWords (x .device)) (x .run) (x .commands) (x .packets)) s
+own-words : (x : Machine) → DeviceIn (x .device) → settled (worded x) ≡ worded x
+own-words x h = ap (λ (d : Device). worded (with-device x d)) (round-trip (x .device) h)
+
+in-words : (x : Machine) (s : State) → Meets x s → Joins (worded x) s
 in-words x s h =
     let n = numbers-small h in
     record { meets = subst (λ (z : Machine). Meets z s) (sym (back x n)) h; own = own-words x n }
 
-joins-next : (y : Lent) (s : State) → Joins y s → (c : Call) → CallIn c → Joins (called y c .next) (step sx1262 s (inputOf c) .next)
-unfolding called
-joins-next y s h c i = in-words (runs (machineIn y) c .next) (step sx1262 s (inputOf c) .next) (meets-next (h .meets) c i)
+joins-next : (y : Dongle) (s : State) → Joins y s → (c : Call) → CallIn c → Joins (called y c .next) (step sx1262 s (inputOf c) .next)
+joins-next y s h c i =
+    subst (λ (x : Left). Joins (x .next) (step sx1262 s (inputOf c) .next)) (sym (called-runs y c))
+    (in-words (runs (machineIn y) c .next) (step sx1262 s (inputOf c) .next) (meets-next (h .meets) c i))
 
 -- ---- power-up
 
@@ -101,23 +111,23 @@ joins-first = in-words (started zeros) S.powerUp (meets-first zeros)
 
 -- ---- demand 1
 
-pub demand1 : (y : Lent) (c : Call) → Demand1 y c
-unfolding called answerWords
+pub demand1 : (y : Dongle) (c : Call) → Demand1 y c
+unfolding answerNumbers
 demand1 y c =
     let d = R.demand1 (machineIn y) c in
     record {
-      tells = d .tells;
-      stays = λ k e. ap inWords (d .stays k e);
+      tells = ap numberIn (called-runs y c) ∙ d .tells;
+      stays = λ k e. called-runs y c ∙ ap inWords (d .stays k e);
     }
 
 -- a refusal changes nothing where the words are the library's own
-refused-stays : (y : Lent) (c : Call) → settled y ≡ y → (n : ℕ) → replyFrom (called y c) .number ≡ suc n → called y c .next ≡ y
+refused-stays : (y : Dongle) (c : Call) → settled y ≡ y → (n : ℕ) → replyFrom (called y c) .number ≡ suc n → called y c .next ≡ y
 unfolding replyFrom
 refused-stays y c own n e = let d = demand1 y c in ap (λ (x : Left). x .next) (d .stays n (sym (d .tells) ∙ e)) ∙ own
 
 -- ---- every list of calls
 
-all-alike : (y : Lent) (s : State) → Joins y s → (cs : List Call) → Each CallIn cs → answers y cs ≡ replies s (map inputOf cs)
+all-alike : (y : Dongle) (s : State) → Joins y s → (cs : List Call) → Each CallIn cs → answers y cs ≡ replies s (map inputOf cs)
 unfolding answers replies
 all-alike y s h [] l = refl
 all-alike y s h (c ∷ cs) l =
@@ -177,32 +187,31 @@ pub unchanged : (cs : List Call) → Each CallIn cs → (c : Call) → Unchanged
 unfolding history
 unchanged cs l c k e =
     let y = history exported cs .device in
-    demand1 y c .stays k e ∙ ap (λ (z : Lent). left z (refusalWords (suc k)) (c .out)) (own-after cs l (begins exported) S.powerUp joins-first)
+    demand1 y c .stays k e ∙ ap (λ (z : Dongle). refusal (suc k) z (c .out)) (own-after cs l (begins exported) S.powerUp joins-first)
 
 -- ---- demand 2, damaged frames
 
-pub demand2 : (y : Lent) (o : List ℕ) → Demand2 y o
-unfolding called
-demand2 y o room goes some bad = ap inWords (R.demand2 (machineIn y) o room goes some bad)
+pub demand2 : (y : Dongle) (o : List ℕ) → Demand2 y o
+demand2 y o room goes some bad = called-runs y _ ∙ ap inWords (R.demand2 (machineIn y) o room goes some bad)
 
 -- ---- the output
 
-pub rest-stays : (y : Lent) (c : Call) → RestStays y c
-unfolding called answerWords
-rest-stays y c = Output.rest-stays (machineIn y) c
+pub rest-stays : (y : Dongle) (c : Call) → RestStays y c
+unfolding answerNumbers
+rest-stays y c = rw (called-runs y c) (Output.rest-stays (machineIn y) c)
 
 -- ---- the bytes that an order names
 
 -- the dongle goes in step with the code
 in-code : InCode exportedOrders zeros
-unfolding called answerWords
+unfolding answerNumbers
 in-code =
     record {
       machine = machineIn;
       powerUp = back (started zeros) (numbers-small (meets-first zeros));
-      next = λ y s h c i. back (runs (machineIn y) c .next) (numbers-small (meets-next h c i));
-      number = λ y c. refl;
-      order = λ y c. order-back (runs (machineIn y) c .answer);
+      next = λ y s h c i. ap (λ (x : Left). machineIn (x .next)) (called-runs y c) ∙ back (runs (machineIn y) c .next) (numbers-small (meets-next h c i));
+      number = λ y c. ap numberIn (called-runs y c);
+      order = λ y c. ap (λ (x : Left). orderFrom (x .answer)) (called-runs y c) ∙ order-back (runs (machineIn y) c .answer);
       commands = λ y. refl;
     }
 

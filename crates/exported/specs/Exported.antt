@@ -17,7 +17,7 @@ use Rattle.control.specs.Control.{radioOf, stalled}
 use Rattle.queue.specs.Queue.{waitingTags}
 use Rattle.words.specs.Words.{controlWords, deviceIn, orderFrom}
 use Rattle.machine.specs.Machine.{Call}
-use Rattle.dongle.specs.Calls.{Lent, lent, first, machineIn, Left, left, call, inWords, called}
+use Rattle.dongle.specs.Calls.{Dongle, first, machineIn, Left, call, inWords, called}
 use Rattle.joint.specs.Seen.{orderIn}
 use Rattle.joint.specs.Joined.{inputOf, CallIn, replies}
 use Rattle.joint.specs.Demands.{causeIn, brought, complaint}
@@ -43,7 +43,7 @@ replyFrom x =
 abbrev pub exported : System
 exported =
     record {
-      State = Lent;
+      State = Dongle;
       powerUp = first;
       Given = Call;
       event = λ c. c .event;
@@ -56,7 +56,7 @@ exported =
     }
 
 -- what C is answered, call by call
-unfoldable pub answers : Lent → List Call → List Reply
+unfoldable pub answers : Dongle → List Call → List Reply
 answers y [] = []
 answers y (c ∷ cs) = replyFrom (called y c) ∷ answers (called y c .next) cs
 
@@ -71,25 +71,29 @@ abbrev pub refusalWords : ℕ → List ℕ
 refusalWords n = n ∷ 0 ∷ 0 ∷ 0 ∷ 0 ∷ 0 ∷ 0 ∷ []
 
 -- a dongle whose control array says the same in the library's own words
-abbrev pub settled : Lent → Lent
-settled y = lent (controlWords (deviceIn (y .control))) (y .run) (y .commands) (y .packets)
+abbrev pub settled : Dongle → Dongle
+settled y = record { control = controlWords (deviceIn (y .control)); run = y .run; commands = y .commands; packets = y .packets }
+
+-- a refusal: what is left of a dongle that is answered with the number n, and nothing
+abbrev pub refusal : ℕ → Dongle → List ℕ → Left
+refusal n y o = record { next = y; answer = refusalWords n; out = o }
 
 -- demand1, for every control array and all memories: the causes are 01's, and a refusal leaves the memories and the output, and the state that the words stand
 -- for
-abbrev pub Demand1 : Lent → Call → Type 0
+abbrev pub Demand1 : Dongle → Call → Type 0
 Demand1 y c =
-    Exact numberIn (λ k. left (settled y) (refusalWords k) (c .out)) (causeIn (machineIn y) c) (called y c)
+    Exact numberIn (λ k. refusal k (settled y) (c .out)) (causeIn (machineIn y) c) (called y c)
 
 -- unchanged: after any list of calls from power-up a refusal changes nothing at all
 abbrev pub Unchanged : List Call → Call → Type 0
 Unchanged cs c =
     let y = history exported cs .device in
-    (k : ℕ) → causeIn (machineIn y) c ≡ suc k → called y c ≡ left y (refusalWords (suc k)) (c .out)
+    (k : ℕ) → causeIn (machineIn y) c ≡ suc k → called y c ≡ refusal (suc k) y (c .out)
 
 -- ---- demand 2, damaged frames
 
 -- demand2, for every control array and all memories: a run that fails step 1 is answered as the code answers it, in words
-abbrev pub Demand2 : Lent → List ℕ → Type 0
+abbrev pub Demand2 : Dongle → List ℕ → Type 0
 Demand2 y o =
     let x = machineIn y in
     ltb (length o) 283 ≡ false → stalled (x .device .air) ≡ false → 0 < x .device .link .run → brought x ≡ damaged
@@ -98,7 +102,7 @@ Demand2 y o =
 -- ---- the output
 
 -- rest-stays, for every control array and all memories: bytes past the written ones stay
-abbrev pub RestStays : Lent → Call → Type 0
+abbrev pub RestStays : Dongle → Call → Type 0
 RestStays y c = drop (countIn (called y c)) (called y c .out) ≡ drop (countIn (called y c)) (c .out)
 
 -- ---- the bytes that an order names
@@ -107,7 +111,7 @@ RestStays y c = drop (countIn (called y c)) (called y c .out) ≡ drop (countIn 
 abbrev pub exportedOrders : Orders
 exportedOrders =
     record {
-      State = Lent;
+      State = Dongle;
       powerUp = first;
       next = λ y c. called y c .next;
       number = λ y c. numberIn (called y c);

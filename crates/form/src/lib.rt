@@ -8,6 +8,9 @@ pub enum Form {
     Wrong,
 }
 
+// The highest value of a field that says yes or no.
+pub const YES: u8 = 1;
+
 // Whether a payload of n bytes has just the known fields.
 pub fn exactly(f: Form, n: usize) -> bool
     ensures { λ r. ⌜ r ≡ exactly f n ⌝ }

@@ -1,4 +1,5 @@
 pub mod Laws
+pub mod Same
 mod Building
 pub mod Stream
 pub mod Bytes

@@ -23,6 +23,10 @@ overhead = 5
 abbrev pub payloadMax : ℕ
 payloadMax = 275
 
+-- the longest frame: such a body encoded, and the zero
+abbrev pub frameMax : ℕ
+frameMax = 283
+
 -- a frame: the encoded body, and the zero that ends it
 unfoldable pub frame : List ℕ → List ℕ
 frame b = encoded b ++ (0 ∷ [])

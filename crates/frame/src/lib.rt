@@ -5,8 +5,9 @@ ghost use Prim.Native.Nat.{_≤_};
 ghost use lib.ListN.{length};
 ghost use Rattle.buffer.specs.Lay.{lay};
 ghost use Rattle.frame.specs.Body.{covered, body};
-ghost use Rattle.frame.specs.Writing.{buildAnswer, buildLeft, frameAnswer, frameLeft};
+ghost use Rattle.frame.specs.Writing.{buildAnswer, buildLeft, frameAnswer, frameLeft, writtenSays};
 use cobs::BODY_MAX;
+use cobs::ENCODED_MAX;
 use numbers::Refusal;
 
 // What a body has beside its payload: type, tag and check value.
@@ -15,6 +16,8 @@ pub const OVERHEAD: usize = 5;
 pub const PAYLOAD: usize = 3;
 // The longest payload: a body has 280 bytes at most.
 pub const PAYLOAD_MAX: usize = 275;
+// The longest frame: a body of that length encoded, and the zero.
+pub const FRAME_MAX: usize = ENCODED_MAX + 1;
 // The bytes of a check value.
 pub const CHECK_SIZE: usize = 2;
 
@@ -36,7 +39,7 @@ pub enum Opened {
 
 // Builds a body in dst.
 pub fn build(kind: u8, tag: u16, payload: &[u8], dst: &mut [u8]) -> Written
-    ensures { λ r. ⌜ r ≡ buildAnswer (now (payload .entry)) (length (now (dst .entry))) ⌝ }
+    ensures { λ r. ⌜ writtenSays r ≡ writtenSays (buildAnswer (now (payload .entry)) (length (now (dst .entry)))) ⌝ }
     ensures { λ r. ⌜ now (dst .exit) ≡ buildLeft kind tag (now (payload .entry)) (now (dst .entry)) ⌝ }
 {
     let n = payload.len();
@@ -74,7 +77,7 @@ fn cover_into(kind: u8, tag: u16, payload: &[u8], dst: &mut [u8])
 
 // Writes the frame of a body to dst: the body encoded, and the zero that ends it.
 pub fn encode(body: &[u8], dst: &mut [u8]) -> Written
-    ensures { λ r. ⌜ r ≡ frameAnswer (now (body .entry)) (length (now (dst .entry))) ⌝ }
+    ensures { λ r. ⌜ writtenSays r ≡ writtenSays (frameAnswer (now (body .entry)) (length (now (dst .entry)))) ⌝ }
     ensures { λ r. ⌜ now (dst .exit) ≡ frameLeft (now (body .entry)) (now (dst .entry)) ⌝ }
 {
     let n = body.len();
@@ -84,7 +87,7 @@ pub fn encode(body: &[u8], dst: &mut [u8]) -> Written
     if BODY_MAX < n {
         return Written::Refused(Refusal::Length);
     }
-    if dst.len() < cobs::worst(n) + 1 {
+    if dst.len() < cobs::worst(n as u16) + 1 {
         return Written::Refused(Refusal::Short);
     }
     let end = cobs::encode_into(body, dst);
@@ -94,7 +97,7 @@ pub fn encode(body: &[u8], dst: &mut [u8]) -> Written
 
 // Writes a whole frame to dst.
 pub fn write(kind: u8, tag: u16, payload: &[u8], dst: &mut [u8]) -> Written
-    ensures { λ r. ⌜ r ≡ frameAnswer (body kind tag (now (payload .entry))) (length (now (dst .entry))) ⌝ }
+    ensures { λ r. ⌜ writtenSays r ≡ writtenSays (frameAnswer (body kind tag (now (payload .entry))) (length (now (dst .entry)))) ⌝ }
     ensures { λ r. ⌜ now (dst .exit) ≡ frameLeft (body kind tag (now (payload .entry))) (now (dst .entry)) ⌝ }
 {
     let n = payload.len();

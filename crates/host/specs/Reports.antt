@@ -4,19 +4,16 @@ use Prim.Native.Nat.{ℕ, _-_}
 use mathlib.Core.Bool.{cond}
 use mathlib.Core.List.{List}
 use lib.Dec.{eqb}
-use lib.IntN.{pos}
 use lib.ListN.{length}
-use Rattle.numbers.specs.Numbers.{TAKEN}
-use Rattle.numbers.specs.Refusals.{refusalNumber}
+use Rattle.numbers.specs.Came.{Came, valueOr}
 use Rattle.scalar.specs.Scalars.{get}
-use Rattle.frame.specs.Body.{payloadOf}
-use Rattle.frame.specs.declared.Opened.{Opened}
-use Rattle.frame.specs.declared.Opened.the-variants as O
+use Rattle.frame.specs.Reading.{Head}
 use Rattle.rx.specs.Rx.{rxSize, rxOf}
 use Rattle.answer.specs.Answers.{done-result, airtime-us}
 use Rattle.kind.specs.Kinds.{GET-INFO, SET-CONFIG}
 use Rattle.kind.specs.declared.Name.{Name}
 use Rattle.kind.specs.declared.Name.the-variants.{Ping, GetInfo, SetConfig}
+use Rattle.reader.specs.Reading.{partBy}
 use Rattle.host.specs.declared.MessageReport.{MessageReport}
 use Rattle.host.specs.declared.RxReport.{RxReport}
 use Rattle.host.specs.declared.TxDoneReport.{TxDoneReport}
@@ -25,16 +22,19 @@ use Rattle.host.specs.declared.TxDoneReport.{TxDoneReport}
 abbrev pub nameIn : ℕ → Name
 nameIn n = cond (eqb n GET-INFO) GetInfo (cond (eqb n SET-CONFIG) SetConfig Ping)
 
--- reading the frame of any answer
-unfoldable pub messageReport : Opened → MessageReport
-messageReport (O.Body kind tag n) = record { number = TAKEN; kind = kind; tag = tag; «payload_len» = n }
-messageReport (O.Refused r) = record { number = refusalNumber r; kind = 0; tag = 0; «payload_len» = 0 }
+-- the head of the body that was read, or zeros
+abbrev headOf : Came Head → Head
+headOf x = valueOr (x .value) record { kind = 0; tag = 0; len = 0 }
 
--- the payload p of an RX
-unfoldable pub rxSays : List ℕ → RxReport
-rxSays p =
+-- reading the frame of any answer
+unfoldable pub messageReport : Came Head → MessageReport
+messageReport x = record { number = x .number; kind = headOf x .kind; tag = headOf x .tag; «payload_len» = headOf x .len }
+
+-- a number, and the payload p of an RX: of no bytes each field is 0
+unfoldable pub rxSays : ℕ → List ℕ → RxReport
+rxSays n p =
     record {
-      number = TAKEN;
+      number = n;
       rssi = rxOf p .rssi;
       snr = rxOf p .snr;
       «freq_err» = rxOf p .«freq_err»;
@@ -46,26 +46,13 @@ rxSays p =
     }
 
 -- reading its frame, with the body b
-unfoldable pub rxReport : Opened → List ℕ → RxReport
-rxReport (O.Body kind tag n) b = rxSays (payloadOf b)
-rxReport (O.Refused r) b =
-    record {
-      number = refusalNumber r;
-      rssi = pos 0;
-      snr = pos 0;
-      «freq_err» = pos 0;
-      «timestamp_us» = 0;
-      «crc_valid» = 0;
-      «packets_dropped» = 0;
-      origin = 0;
-      «packet_len» = 0;
-    }
+unfoldable pub rxReport : Came Head → List ℕ → RxReport
+rxReport x b = rxSays (x .number) (partBy (x .value) b)
 
--- the tag and the payload p of a TX_DONE
-unfoldable pub txDoneSays : ℕ → List ℕ → TxDoneReport
-txDoneSays tag p = record { number = TAKEN; tag = tag; result = get done-result p; «airtime_us» = get airtime-us p }
+-- a number, and the tag and the payload p of a TX_DONE
+unfoldable pub txDoneSays : ℕ → ℕ → List ℕ → TxDoneReport
+txDoneSays n tag p = record { number = n; tag = tag; result = get done-result p; «airtime_us» = get airtime-us p }
 
 -- reading its frame, with the body b
-unfoldable pub txDoneReport : Opened → List ℕ → TxDoneReport
-txDoneReport (O.Body kind tag n) b = txDoneSays tag (payloadOf b)
-txDoneReport (O.Refused r) b = record { number = refusalNumber r; tag = 0; result = 0; «airtime_us» = 0 }
+unfoldable pub txDoneReport : Came Head → List ℕ → TxDoneReport
+txDoneReport x b = txDoneSays (x .number) (headOf x .tag) (partBy (x .value) b)

@@ -2,13 +2,16 @@
 ghost use mathlib.Core.Path.{_≡_};
 ghost use Prim.Native.Nat.{_≤_};
 ghost use lib.ListN.{length};
+ghost use Rattle.numbers.specs.Numbers.{TAKEN};
+ghost use Rattle.numbers.specs.Came.{valueOr};
 ghost use Rattle.cobs.specs.Decoding.{decoded};
-ghost use Rattle.cobs.specs.Answers.{encodeAnswer, encodeLeft, encodeNumber, decodeAnswer, decodeLeft, decodeNumber};
+ghost use Rattle.cobs.specs.Answers.{encodeAnswer, encodeLeft, encodedSays, decodeAnswer, decodeLeft, decodedSays};
+ghost use Rattle.frame.specs.Writing.{writtenSays};
+ghost use Rattle.frame.specs.Reading.{openedSays};
 ghost use Rattle.rx.specs.Rx.{rxSize};
 ghost use Rattle.answer.specs.Answers.{txDoneSize};
 ghost use Rattle.reader.specs.Reading.{receiveAnswer, receiveLeft};
 ghost use Rattle.writer.specs.Writing.{writeAnswer, writeLeft};
-ghost use Rattle.host.specs.Written.{encodeWritten, decodeWritten, writeNumber, writeWritten};
 ghost use Rattle.host.specs.Reports.{nameIn, messageReport, rxSays, rxReport, txDoneSays, txDoneReport};
 use cobs::Decoded;
 use cobs::Encoded;
@@ -27,9 +30,9 @@ use verdict::Kinds;
 
 // Encodes src into dst, and stores the count of bytes in written.
 pub fn cobs_encode(src: &[u8], dst: &mut [u8], written: &mut usize) -> u8
-    ensures { λ r. ⌜ r ≡ encodeNumber (encodeAnswer (now (src .entry)) (length (now (dst .entry)))) ⌝ }
+    ensures { λ r. ⌜ r ≡ encodedSays (encodeAnswer (now (src .entry)) (length (now (dst .entry)))) .number ⌝ }
     ensures { λ r. ⌜ now (dst .exit) ≡ encodeLeft (now (src .entry)) (now (dst .entry)) ⌝ }
-    ensures { λ r. ⌜ now (written .exit) ≡ encodeWritten (encodeAnswer (now (src .entry)) (length (now (dst .entry)))) (now (written .entry)) ⌝ }
+    ensures { λ r. ⌜ now (written .exit) ≡ valueOr (encodedSays (encodeAnswer (now (src .entry)) (length (now (dst .entry)))) .value) (now (written .entry)) ⌝ }
 {
     match cobs::encode(src, dst) {
         Encoded::Done(n) => {
@@ -43,9 +46,9 @@ pub fn cobs_encode(src: &[u8], dst: &mut [u8], written: &mut usize) -> u8
 
 // Decodes src into dst, and stores the count of bytes in written.
 pub fn cobs_decode(src: &[u8], dst: &mut [u8], written: &mut usize) -> u8
-    ensures { λ r. ⌜ r ≡ decodeNumber (decodeAnswer (now (src .entry)) (length (now (dst .entry)))) ⌝ }
+    ensures { λ r. ⌜ r ≡ decodedSays (decodeAnswer (now (src .entry)) (length (now (dst .entry)))) .number ⌝ }
     ensures { λ r. ⌜ now (dst .exit) ≡ decodeLeft (now (src .entry)) (now (dst .entry)) ⌝ }
-    ensures { λ r. ⌜ now (written .exit) ≡ decodeWritten (decodeAnswer (now (src .entry)) (length (now (dst .entry)))) (now (written .entry)) ⌝ }
+    ensures { λ r. ⌜ now (written .exit) ≡ valueOr (decodedSays (decodeAnswer (now (src .entry)) (length (now (dst .entry)))) .value) (now (written .entry)) ⌝ }
 {
     match cobs::decode(src, dst) {
         Decoded::Done(n) => {
@@ -61,9 +64,10 @@ pub fn cobs_decode(src: &[u8], dst: &mut [u8], written: &mut usize) -> u8
 // Writes the frame of a command from its type, tag and payload, and stores the count of bytes in
 // written.
 pub fn write_command(kind: u8, tag: u16, payload: &[u8], dst: &mut [u8], written: &mut usize) -> u8
-    ensures { λ r. ⌜ r ≡ writeNumber (writeAnswer Kinds.Commands kind tag (now (payload .entry)) (length (now (dst .entry)))) ⌝ }
+    ensures { λ r. ⌜ r ≡ writtenSays (writeAnswer Kinds.Commands kind tag (now (payload .entry)) (length (now (dst .entry)))) .number ⌝ }
     ensures { λ r. ⌜ now (dst .exit) ≡ writeLeft Kinds.Commands kind tag (now (payload .entry)) (now (dst .entry)) ⌝ }
-    ensures { λ r. ⌜ now (written .exit) ≡ writeWritten (writeAnswer Kinds.Commands kind tag (now (payload .entry)) (length (now (dst .entry)))) (now (written .entry)) ⌝ }
+    ensures { λ r. ⌜ now (written .exit)
+        ≡ valueOr (writtenSays (writeAnswer Kinds.Commands kind tag (now (payload .entry)) (length (now (dst .entry)))) .value) (now (written .entry)) ⌝ }
 {
     match writer::write(Kinds::Commands, kind, tag, payload, dst) {
         Written::Done(n) => {
@@ -99,7 +103,7 @@ fn name_of(command: u8) -> Name
 // Reads the frame of an answer, where an OK is that to a command, and puts its body at the start of
 // body.
 pub fn read_answer(command: u8, run: &[u8], body: &mut [u8]) -> MessageReport
-    ensures { λ r. ⌜ r ≡ messageReport (receiveAnswer (Kinds.Answers (nameIn command)) (now (run .entry)) (length (now (body .entry)))) ⌝ }
+    ensures { λ r. ⌜ r ≡ messageReport (openedSays (receiveAnswer (Kinds.Answers (nameIn command)) (now (run .entry)) (length (now (body .entry))))) ⌝ }
     ensures { λ r. ⌜ now (body .exit) ≡ receiveLeft (Kinds.Answers (nameIn command)) (now (run .entry)) (now (body .entry)) ⌝ }
 {
     let name = name_of(command);
@@ -135,7 +139,7 @@ pub struct RxReport {
 
 // Reads the frame of an RX, and puts its body at the start of body.
 pub fn read_rx(run: &[u8], body: &mut [u8]) -> RxReport
-    ensures { λ r. ⌜ r ≡ rxReport (receiveAnswer Kinds.Rx (now (run .entry)) (length (now (body .entry)))) (decoded (now (run .entry))) ⌝ }
+    ensures { λ r. ⌜ r ≡ rxReport (openedSays (receiveAnswer Kinds.Rx (now (run .entry)) (length (now (body .entry))))) (decoded (now (run .entry))) ⌝ }
     ensures { λ r. ⌜ now (body .exit) ≡ receiveLeft Kinds.Rx (now (run .entry)) (now (body .entry)) ⌝ }
 {
     match reader::receive(Kinds::Rx, run, body) {
@@ -161,7 +165,7 @@ pub fn read_rx(run: &[u8], body: &mut [u8]) -> RxReport
 // What the payload of an RX says.
 fn rx_report(payload: &[u8]) -> RxReport
     requires { ⌜ rxSize ≤ length (now payload) ⌝ }
-    ensures { λ r. ⌜ r ≡ rxSays (now (payload .entry)) ⌝ }
+    ensures { λ r. ⌜ r ≡ rxSays TAKEN (now (payload .entry)) ⌝ }
 {
     let m = rx::rx_of(payload);
     RxReport {
@@ -188,7 +192,7 @@ pub struct TxDoneReport {
 
 // Reads the frame of a TX_DONE, and puts its body at the start of body.
 pub fn read_tx_done(run: &[u8], body: &mut [u8]) -> TxDoneReport
-    ensures { λ r. ⌜ r ≡ txDoneReport (receiveAnswer Kinds.TxDone (now (run .entry)) (length (now (body .entry)))) (decoded (now (run .entry))) ⌝ }
+    ensures { λ r. ⌜ r ≡ txDoneReport (openedSays (receiveAnswer Kinds.TxDone (now (run .entry)) (length (now (body .entry))))) (decoded (now (run .entry))) ⌝ }
     ensures { λ r. ⌜ now (body .exit) ≡ receiveLeft Kinds.TxDone (now (run .entry)) (now (body .entry)) ⌝ }
 {
     match reader::receive(Kinds::TxDone, run, body) {
@@ -205,7 +209,7 @@ pub fn read_tx_done(run: &[u8], body: &mut [u8]) -> TxDoneReport
 // What the payload of a TX_DONE says.
 fn tx_done_report(tag: u16, payload: &[u8]) -> TxDoneReport
     requires { ⌜ txDoneSize ≤ length (now payload) ⌝ }
-    ensures { λ r. ⌜ r ≡ txDoneSays tag (now (payload .entry)) ⌝ }
+    ensures { λ r. ⌜ r ≡ txDoneSays TAKEN tag (now (payload .entry)) ⌝ }
 {
     let airtime_us = scalar::u32_at(payload, 1);
     TxDoneReport {

@@ -3,7 +3,7 @@
 use Prim.Native.Nat.{ℕ, suc, _+_, _*_, _-_, _%_, _≤_, _<_, min}
 use mathlib.Core.Path.{_≡_, refl, sym, ap, ap₂, _∙_}
 use mathlib.Core.Bool.{Bool, true, false, _&&_, and-true, and-false}
-use mathlib.Core.List.{List, _∷_, _++_}
+use mathlib.Core.List.{List, [], _∷_, _++_}
 use native.Mathlib.Omega.{arith}
 use borrow.Author.Tests.{lt-ltb, le-ltb, le-leb, lt-leb}
 use lib.Dec.{leb}
@@ -25,16 +25,16 @@ use Rattle.wire.proofs.Laws.{sent-one}
 use Rattle.control.specs.declared.Device.{Device}
 use Rattle.control.specs.declared.Order.the-variants.{Nothing}
 use Rattle.control.specs.declared.Answer.{Answer}
-use Rattle.control.specs.Control.{inbox, withInbox, free?, within}
-use Rattle.control.proofs.Laws.{answered, plain, quiet, spoken}
+use Rattle.control.specs.Control.{inbox, withInbox, free?, does, taken, within}
+use Rattle.control.proofs.Laws.{answered, tells-refusal, tells-quiet, refusal, silently, says-all}
 use Rattle.inbox.specs.declared.Heard.{Heard}
-use Rattle.inbox.specs.Packets.{slotSize, packetsSize, slotBytes, kept, counted, payloadAt, packetOf, more, onPacket, onRequest, packetDone, requestDone, Keeps, Delivers}
+use Rattle.inbox.specs.Packets.{heldSize, packetsSize, heldBytes, kept, counted, payloadAt, takes, packetOf, more, onPacket, onRequest, packetOut, requestOut, Keeps, Delivers}
 
 -- ---- what is written to a slot
 
 -- the packet's length, its fields and its bytes, one after another
 pub put-slot : (at : ℕ) (p : Packet) (m : List ℕ) → length (p .bytes) ≤ 255 → at + 276 ≤ length m
-    → lay (at + 1 + 20) (p .bytes) (lay (at + 1) (rxBytes (rxValue p 0)) (set m at (length (p .bytes)))) ≡ lay at (slotBytes p) m
+    → lay (at + 1 + 20) (p .bytes) (lay (at + 1) (rxBytes (rxValue p 0)) (set m at (length (p .bytes)))) ≡ lay at (heldBytes p) m
 put-slot at p m small room =
     let f = rxBytes (rxValue p 0) in
     let n = length (p .bytes) in
@@ -59,16 +59,16 @@ heard h b = record { rssi = h .rssi; snr = h .snr; freq = h .freq; time = h .tim
 
 module _ (m : List ℕ) (k : ℕ) (h : Heard) (bs : List ℕ) where
   abbrev laid : Bool → List ℕ → List ℕ
-  laid b cs = lay (k * slotSize) (slotBytes (packetOf (heard h b) cs)) m
+  laid b cs = lay (k * heldSize) (heldBytes (packetOf (heard h b) cs)) m
 
   -- the packet's slot, where it is not cut, and where it is
-  pub keep-whole : length bs ≤ 255 → lay (k * slotSize) (slotBytes (packetOf h bs)) m ≡ kept m k (cut (packetOf h bs))
+  pub keep-whole : length bs ≤ 255 → lay (k * heldSize) (heldBytes (packetOf h bs)) m ≡ kept m k (cut (packetOf h bs))
   unfolding kept
   keep-whole small =
       let e : (h .crc && leb (length bs) 255) ≡ h .crc = rw (le-leb (length bs) 255 small) (and-true (h .crc)) in
       sym (ap₂ laid e (take-all 255 bs small))
 
-  pub keep-cut : 255 < length bs → lay (k * slotSize) (slotBytes (packetOf (heard h false) (take 255 bs))) m ≡ kept m k (cut (packetOf h bs))
+  pub keep-cut : 255 < length bs → lay (k * heldSize) (heldBytes (packetOf (heard h false) (take 255 bs))) m ≡ kept m k (cut (packetOf h bs))
   unfolding kept
   keep-cut long =
       let e : (h .crc && leb (length bs) 255) ≡ false = rw (lt-leb (length bs) 255 long) (and-false (h .crc)) in
@@ -77,26 +77,26 @@ module _ (m : List ℕ) (k : ℕ) (h : Heard) (bs : List ℕ) where
 -- ---- the drop count in a slot
 
 -- it is written after the packet's length
-pub counted-at : (m : List ℕ) (k n : ℕ) {bs m' : List ℕ} → bs ≡ le 2 n → m' ≡ lay (k * slotSize + 1 + 17) bs m → m' ≡ counted m k n
+pub counted-at : (m : List ℕ) (k n : ℕ) {bs m' : List ℕ} → bs ≡ le 2 n → m' ≡ lay (k * heldSize + 1 + 17) bs m → m' ≡ counted m k n
 unfolding counted
 counted-at m k n e f =
-    let p : k * slotSize + 1 + 17 ≡ k * slotSize + 18 = omega arith in
+    let p : k * heldSize + 1 + 17 ≡ k * heldSize + 18 = omega arith in
     rw (e, p) at f
 
 module _ (m : List ℕ) (k n : ℕ) (slot : k < ringMax) (whole : length m ≡ packetsSize) where
   -- the packet's length stays
-  length-stays : getD (counted m k n) (k * slotSize) 0 ≡ getD m (k * slotSize) 0
+  length-stays : getD (counted m k n) (k * heldSize) 0 ≡ getD m (k * heldSize) 0
   unfolding counted lay
   length-stays =
-      List·getD-append (take (k * slotSize + 18) m) (le 2 n ++ drop (k * slotSize + 18 + length (le 2 n)) m) 0 (k * slotSize)
+      List·getD-append (take (k * heldSize + 18) m) (le 2 n ++ drop (k * heldSize + 18 + length (le 2 n)) m) 0 (k * heldSize)
       (rw length-take (omega arith))
-      ∙ getD-take (k * slotSize + 18) m (k * slotSize) 0 (omega arith)
+      ∙ getD-take (k * heldSize + 18) m (k * heldSize) 0 (omega arith)
 
   -- the payload is the part from after it to its end
-  pub payload-part : take (k * slotSize + 1 + 20 + getD m (k * slotSize) 0 - (k * slotSize + 1)) (drop (k * slotSize + 1) (counted m k n))
+  pub payload-part : take (k * heldSize + 1 + 20 + getD m (k * heldSize) 0 - (k * heldSize + 1)) (drop (k * heldSize + 1) (counted m k n))
       ≡ payloadAt (counted m k n) k
   payload-part =
-      let e : k * slotSize + 1 + 20 + getD m (k * slotSize) 0 - (k * slotSize + 1) ≡ 20 + getD m (k * slotSize) 0 = omega arith in
+      let e : k * heldSize + 1 + 20 + getD m (k * heldSize) 0 - (k * heldSize + 1) ≡ 20 + getD m (k * heldSize) 0 = omega arith in
       rw (e, length-stays)
 
 -- ---- a packet, in each case
@@ -106,37 +106,37 @@ abbrev hears : Device → Bool
 hears d = d .inbox .receiving && free? (d .air .radio)
 
 module _ (room : ℕ) (p : Packet) (m : List ℕ) (d : Device) where
-  pub no-room : {r : Answer} → room < roomMin → r ≡ answered d ROOM 0 Nothing → Keeps (packetDone room p m d) r m
-  unfolding packetDone within
-  no-room h e = rw (lt-ltb room roomMin h) record { answers = plain d ROOM 0 Nothing e; packets = refl }
+  pub no-room : {r : Answer} → room < roomMin → r ≡ answered d ROOM 0 Nothing → Keeps (packetOut room p m d) r m
+  unfolding packetOut within
+  no-room h e = rw (lt-ltb room roomMin h) record { tells = tells-refusal ROOM d e; packets = refl }
 
   module _ (wide : roomMin ≤ room) where
-    done-by : (b : Bool) → hears d ≡ b → packetDone room p m d ≡ onPacket b p m d
-    unfolding packetDone within
+    done-by : (b : Bool) → hears d ≡ b → packetOut room p m d ≡ onPacket b p m d
+    unfolding packetOut within
     done-by b t = simp (le-ltb room roomMin wide, t)
 
-    pub no-place : {r : Answer} → hears d ≡ false → r ≡ answered d PLACE 0 Nothing → Keeps (packetDone room p m d) r m
-    no-place t e = rw (done-by false t) record { answers = plain d PLACE 0 Nothing e; packets = refl }
+    pub no-place : {r : Answer} → hears d ≡ false → r ≡ answered d PLACE 0 Nothing → Keeps (packetOut room p m d) r m
+    no-place t e = rw (done-by false t) record { tells = tells-refusal PLACE d e; packets = refl }
 
     pub placed : {r : Answer} {m' : List ℕ} → hears d ≡ true
         → r ≡ answered (withInbox d (more (d .inbox))) TAKEN 0 Nothing
-        → m' ≡ kept m ((d .inbox .first + d .inbox .held) % ringMax) (cut p) → Keeps (packetDone room p m d) r m'
-    placed t e f = rw (done-by true t) record { answers = plain (withInbox d (more (d .inbox))) TAKEN 0 Nothing e; packets = f }
+        → m' ≡ kept m ((d .inbox .first + d .inbox .held) % ringMax) (cut p) → Keeps (packetOut room p m d) r m'
+    placed t e f = rw (done-by true t) record { tells = tells-quiet (withInbox d (more (d .inbox))) Nothing e; packets = f }
 
 -- ---- a request, in each case
 
 module _ (o m : List ℕ) (d : Device) where
-  pub no-room-out : {r : Answer} → length o < roomMin → r ≡ answered d ROOM 0 Nothing → Delivers (requestDone (length o) m d) o r o m
-  unfolding requestDone within
-  no-room-out h e = rw (lt-ltb (length o) roomMin h) record { gives = quiet d ROOM Nothing o 0 e; packets = refl }
+  pub no-room-out : {r : Answer} → length o < roomMin → r ≡ answered d ROOM 0 Nothing → Delivers (requestOut (length o) m d) o r o m
+  unfolding requestOut within
+  no-room-out h e = rw (lt-ltb (length o) roomMin h) record { answers = refusal ROOM d o e; packets = refl }
 
   module _ (wide : roomMin ≤ length o) where
-    done-of : (n : ℕ) → d .inbox .held ≡ n → requestDone (length o) m d ≡ onRequest n m d
-    unfolding requestDone within
+    done-of : (n : ℕ) → d .inbox .held ≡ n → requestOut (length o) m d ≡ takes (onRequest n m d)
+    unfolding requestOut within
     done-of n t = simp (le-ltb (length o) roomMin wide, t)
 
-    pub none-held : {r : Answer} → d .inbox .held ≡ 0 → r ≡ answered d TAKEN 0 Nothing → Delivers (requestDone (length o) m d) o r o m
-    none-held t e = rw (done-of 0 t) record { gives = quiet d TAKEN Nothing o 0 e; packets = refl }
+    pub none-held : {r : Answer} → d .inbox .held ≡ 0 → r ≡ answered d TAKEN 0 Nothing → Delivers (requestOut (length o) m d) o r o m
+    none-held t e = rw (done-of 0 t) record { answers = silently (taken (does d [] Nothing)) o refl (tells-quiet d Nothing e); packets = refl }
 
     abbrev slot : ℕ
     slot = d .inbox .first % ringMax
@@ -149,5 +149,5 @@ module _ (o m : List ℕ) (d : Device) where
 
     pub delivered : {r : Answer} {o' m' : List ℕ} {w : ℕ} → (n : ℕ) → d .inbox .held ≡ suc n → m' ≡ after
         → Says (frame RX 0 (payloadAt after slot)) o 0 w o' → r ≡ answered (next n) TAKEN w Nothing
-        → Delivers (requestDone (length o) m d) o r o' m'
-    delivered n t f s e = rw (done-of (suc n) t) record { gives = spoken (next n) TAKEN Nothing (sent-one s) e; packets = f }
+        → Delivers (requestOut (length o) m d) o r o' m'
+    delivered n t f s e = rw (done-of (suc n) t) record { answers = says-all (next n) Nothing (sent-one s) e; packets = f }

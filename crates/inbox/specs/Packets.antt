@@ -10,8 +10,8 @@ use lib.ListN.{length, take, drop, getD}
 use Rattle.numbers.specs.Numbers.{PLACE}
 use Rattle.buffer.specs.Lay.{lay}
 use Rattle.scalar.specs.Scalars.{le}
-use Rattle.kind.specs.Kinds.{RX}
-use Rattle.rx.specs.Rx.{rxSize, rxBytes}
+use Rattle.kind.specs.Kinds.{RX, packetMax}
+use Rattle.rx.specs.Rx.{dropped-at, rxSize, rxBytes}
 use Rattle.board.specs.Board.{ringMax}
 use Rattle.device.specs.State.{Packet}
 use Rattle.device.specs.Messages.{frame, rxValue}
@@ -20,40 +20,43 @@ use Rattle.control.specs.declared.Inbox.{Inbox}
 use Rattle.control.specs.declared.Device.{Device}
 use Rattle.control.specs.declared.Order.the-variants.{Nothing}
 use Rattle.control.specs.declared.Answer.{Answer}
-use Rattle.control.specs.Control.{inbox, withInbox, free?, Done, taken, refused, within, answerOf, Gives}
+use Rattle.control.specs.Control.{inbox, withInbox, free?, Done, does, Out, taken, refused, within, Tells, Answers}
 use Rattle.inbox.specs.declared.Heard.{Heard}
 
 -- ---- the memory of packets
 
-abbrev pub slotSize : ℕ
-slotSize = 276
+abbrev pub heldSize : ℕ
+heldSize = 1 + (rxSize + packetMax)
 
 abbrev pub packetsSize : ℕ
-packetsSize = 17664
+packetsSize = ringMax * heldSize
 
 -- what stands in a slot for the packet p
-abbrev pub slotBytes : Packet → List ℕ
-slotBytes p = length (p .bytes) ∷ (rxBytes (rxValue p 0) ++ p .bytes)
+abbrev pub heldBytes : Packet → List ℕ
+heldBytes p = length (p .bytes) ∷ (rxBytes (rxValue p 0) ++ p .bytes)
 
 -- the memory m with the packet p in slot k
 unfoldable pub kept : List ℕ → ℕ → Packet → List ℕ
-kept m k p = lay (k * slotSize) (slotBytes p) m
+kept m k p = lay (k * heldSize) (heldBytes p) m
 
--- the memory m with the drop count n in slot k: P 6.9 has it at 17
+-- the memory m with the drop count n in slot k
 unfoldable pub counted : List ℕ → ℕ → ℕ → List ℕ
-counted m k n = lay (k * slotSize + 18) (le 2 n) m
+counted m k n = lay (k * heldSize + (1 + dropped-at)) (le 2 n) m
 
 -- the payload of an RX in slot k
 abbrev pub payloadAt : List ℕ → ℕ → List ℕ
-payloadAt m k = take (rxSize + getD m (k * slotSize) 0) (drop (k * slotSize + 1) m)
+payloadAt m k = take (rxSize + getD m (k * heldSize) 0) (drop (k * heldSize + 1) m)
 
--- what an event gives, and the memory that it leaves
-pub record Held : Type 0 where
-  pub done : Done
+-- what is given, by one that is taken (Done) or by any (Out), and the memory that is left
+pub record Held (A : Type 0) : Type 0 where
+  pub gives : A
   pub packets : List ℕ
 
-abbrev pub held : Done → List ℕ → Held
-held x m = record { done = x; packets = m }
+abbrev pub held : {A : Type 0} → A → List ℕ → Held A
+held x m = record { gives = x; packets = m }
+
+abbrev pub takes : Held Done → Held Out
+takes x = held (taken (x .gives)) (x .packets)
 
 -- ---- packet
 
@@ -68,37 +71,37 @@ more i =
     cond (ltb (i .held) ringMax) (inbox (i .receiving) (i .first) (i .held + 1) (i .drops))
     (inbox (i .receiving) ((i .first % ringMax + 1) % ringMax) (i .held) (min (suc (i .drops)) dropsMax))
 
-abbrev pub onPacket : Bool → Packet → List ℕ → Device → Held
+abbrev pub onPacket : Bool → Packet → List ℕ → Device → Held Out
 onPacket true p m d =
-    held (taken (withInbox d (more (d .inbox))) [] Nothing) (kept m ((d .inbox .first + d .inbox .held) % ringMax) (cut p))
+    takes (held (does (withInbox d (more (d .inbox))) [] Nothing) (kept m ((d .inbox .first + d .inbox .held) % ringMax) (cut p)))
 onPacket false p m d = held (refused PLACE d) m
 
 -- ---- request
 
-abbrev pub onRequest : ℕ → List ℕ → Device → Held
-onRequest zero m d = held (taken d [] Nothing) m
+abbrev pub onRequest : ℕ → List ℕ → Device → Held Done
+onRequest zero m d = held (does d [] Nothing) m
 onRequest (suc n) m d =
     let k = d .inbox .first % ringMax in
     let m' = counted m k (d .inbox .drops) in
-    held (taken (withInbox d (inbox (d .inbox .receiving) ((k + 1) % ringMax) n 0)) (frame RX 0 (payloadAt m' k) ∷ []) Nothing) m'
+    held (does (withInbox d (inbox (d .inbox .receiving) ((k + 1) % ringMax) n 0)) (frame RX 0 (payloadAt m' k) ∷ []) Nothing) m'
 
 -- ---- the two events, with output of so much room
 
-abbrev heldWithin : ℕ → List ℕ → Device → Held → Held
-heldWithin room m d x = held (within room d (x .done)) (cond (ltb room roomMin) m (x .packets))
+abbrev heldWithin : ℕ → List ℕ → Device → Held Out → Held Out
+heldWithin room m d x = held (within room d (x .gives)) (cond (ltb room roomMin) m (x .packets))
 
-unfoldable pub packetDone : ℕ → Packet → List ℕ → Device → Held
-packetDone room p m d = heldWithin room m d (onPacket (d .inbox .receiving && free? (d .air .radio)) p m d)
+unfoldable pub packetOut : ℕ → Packet → List ℕ → Device → Held Out
+packetOut room p m d = heldWithin room m d (onPacket (d .inbox .receiving && free? (d .air .radio)) p m d)
 
-unfoldable pub requestDone : ℕ → List ℕ → Device → Held
-requestDone room m d = heldWithin room m d (onRequest (d .inbox .held) m d)
+unfoldable pub requestOut : ℕ → List ℕ → Device → Held Out
+requestOut room m d = heldWithin room m d (takes (onRequest (d .inbox .held) m d))
 
 -- the contract of a packet, which writes nothing
-pub record Keeps (x : Held) (r : Answer) (m' : List ℕ) : Type 0 where
-  pub answers : r ≡ answerOf 0 (x .done)
+pub record Keeps (x : Held Out) (r : Answer) (m' : List ℕ) : Type 0 where
+  pub tells : Tells (x .gives) r
   pub packets : m' ≡ x .packets
 
 -- the contract of a request
-pub record Delivers (x : Held) (o : List ℕ) (r : Answer) (o' m' : List ℕ) : Type 0 where
-  pub gives : Gives (x .done) o 0 r o'
+pub record Delivers (x : Held Out) (o : List ℕ) (r : Answer) (o' m' : List ℕ) : Type 0 where
+  pub answers : Answers (x .gives) o r o'
   pub packets : m' ≡ x .packets

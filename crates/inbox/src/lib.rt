@@ -7,31 +7,30 @@ ghost use Rattle.buffer.specs.Lay.{lay};
 ghost use Rattle.kind.specs.Kinds as K;
 ghost use Rattle.device.specs.Messages.{frame, rxValue};
 ghost use Rattle.device.specs.Messages as M;
-ghost use Rattle.device.specs.Events.{cut};
+ghost use Rattle.board.specs.Board.{ringMax};
+ghost use Rattle.device.specs.Events.{cut, roomMin};
 ghost use Rattle.wire.specs.Wire.{Says};
-ghost use Rattle.inbox.specs.Packets.{packetsSize, slotBytes, kept, counted, payloadAt, packetOf, more, packetDone, requestDone, Keeps, Delivers};
+ghost use Rattle.inbox.specs.Packets.{heldSize, packetsSize, heldBytes, kept, counted, payloadAt, packetOf, more, packetOut, requestOut, Keeps, Delivers};
 use board::RING_MAX;
 use control::Answer;
 use control::Device;
 use control::Inbox;
 use control::Order;
 use control::ROOM_MIN;
+use kind::PACKET_MAX;
 use kind::RX;
 use numbers::PLACE;
 use numbers::ROOM;
+use rx::PACKETS_DROPPED;
 use rx::RX_SIZE;
 use rx::Rx;
 
 // How many packets are held, as a byte.
 const RING: u8 = RING_MAX as u8;
-// A slot: the packet's length, RX's fields, and a packet of up to 255 bytes.
-pub const SLOT_SIZE: usize = 276;
+// The slot of a packet: its length, RX's fields, and up to 255 bytes.
+pub const HELD_SIZE: usize = 1 + RX_SIZE + PACKET_MAX;
 // The memory of packets: 64 slots.
-pub const PACKETS: usize = 17664;
-// The longest packet.
-const PACKET_MAX: usize = 255;
-// Where the drop count stands among RX's fields: P 6.9.
-const DROPPED: usize = 17;
+pub const PACKETS: usize = RING_MAX * HELD_SIZE;
 // The highest drop count.
 const DROPS_MAX: u16 = 65535;
 
@@ -55,7 +54,7 @@ pub fn empty_packets() -> [u8; PACKETS]
 // A packet was received: its bytes go into the ring. It writes nothing, and asks only for the room
 // that an event's output must have.
 pub fn packet(d: Device, h: Heard, bytes: &[u8], packets: &mut [u8; PACKETS], room: usize) -> Answer
-    ensures { λ r. ⌜ Keeps (packetDone room (packetOf h (now (bytes .entry))) (now (packets .entry)) d) r (now (packets .exit)) ⌝ }
+    ensures { λ r. ⌜ Keeps (packetOut room (packetOf h (now (bytes .entry))) (now (packets .entry)) d) r (now (packets .exit)) ⌝ }
 {
     if room < ROOM_MIN {
         return control::refuse(d, ROOM);
@@ -104,10 +103,10 @@ fn more(i: Inbox) -> Inbox
 
 // Puts a packet into a slot; one over 255 bytes is cut.
 fn keep(slot: usize, h: Heard, bytes: &[u8], packets: &mut [u8; PACKETS])
-    requires { ⌜ slot < 64 ⌝ }
+    requires { ⌜ slot < ringMax ⌝ }
     ensures { λ _. ⌜ now (packets .exit) ≡ kept (now (packets .entry)) slot (cut (packetOf h (now (bytes .entry)))) ⌝ }
 {
-    let at = slot * SLOT_SIZE;
+    let at = slot * HELD_SIZE;
     if PACKET_MAX < bytes.len() {
         let mut wrong = h;
         wrong.crc = false;
@@ -144,9 +143,9 @@ fn fields_of(h: Heard) -> Rx
 
 // Writes a packet to memory, from index at on.
 fn put(at: usize, h: Heard, bytes: &[u8], memory: &mut [u8])
-    requires { ⌜ length (now bytes) ≤ 255 ⌝ }
-    requires { ⌜ at + 276 ≤ length (now memory) ⌝ }
-    ensures { λ _. ⌜ now (memory .exit) ≡ lay at (slotBytes (packetOf h (now (bytes .entry)))) (now (memory .entry)) ⌝ }
+    requires { ⌜ length (now bytes) ≤ K.packetMax ⌝ }
+    requires { ⌜ at + heldSize ≤ length (now memory) ⌝ }
+    ensures { λ _. ⌜ now (memory .exit) ≡ lay at (heldBytes (packetOf h (now (bytes .entry)))) (now (memory .entry)) ⌝ }
 {
     let fields = rx::rx_bytes(fields_of(h));
     memory[at] = bytes.len() as u8;
@@ -156,7 +155,7 @@ fn put(at: usize, h: Heard, bytes: &[u8], memory: &mut [u8])
 
 // The host asks for a packet: the oldest is delivered with the drop count.
 pub fn request(d: Device, packets: &mut [u8; PACKETS], out: &mut [u8]) -> Answer
-    ensures { λ r. ⌜ Delivers (requestDone (length (now (out .entry))) (now (packets .entry)) d) (now (out .entry)) r (now (out .exit)) (now (packets .exit)) ⌝ }
+    ensures { λ r. ⌜ Delivers (requestOut (length (now (out .entry))) (now (packets .entry)) d) (now (out .entry)) r (now (out .exit)) (now (packets .exit)) ⌝ }
 {
     if out.len() < ROOM_MIN {
         return control::refuse(d, ROOM);
@@ -181,16 +180,16 @@ pub fn request(d: Device, packets: &mut [u8; PACKETS], out: &mut [u8]) -> Answer
 
 // Writes the RX in a slot, with the drop count put into it, and answers where it ends.
 fn deliver(slot: usize, drops: u16, packets: &mut [u8], out: &mut [u8]) -> usize
-    requires { ⌜ slot < 64 ⌝ }
-    requires { ⌜ length (now packets) ≡ 17664 ⌝ }
-    requires { ⌜ 283 ≤ length (now out) ⌝ }
+    requires { ⌜ slot < ringMax ⌝ }
+    requires { ⌜ length (now packets) ≡ packetsSize ⌝ }
+    requires { ⌜ roomMin ≤ length (now out) ⌝ }
     ensures { λ _. ⌜ now (packets .exit) ≡ counted (now (packets .entry)) slot drops ⌝ }
     ensures { λ r. ⌜ Says (frame K.RX 0 (payloadAt (counted (now (packets .entry)) slot drops) slot)) (now (out .entry)) 0 r (now (out .exit)) ⌝ }
 {
-    let at = slot * SLOT_SIZE;
+    let at = slot * HELD_SIZE;
     let n = packets[at] as usize;
     let count = scalar::bytes_of_u16(drops);
     let first = at + 1;
-    buffer::copy(&count, packets, first + DROPPED);
+    buffer::copy(&count, packets, first + PACKETS_DROPPED);
     wire::say(RX, 0, &packets[first..first + RX_SIZE + n], out, 0)
 }

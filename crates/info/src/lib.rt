@@ -10,7 +10,7 @@ ghost use Rattle.info.specs.Info.{infoForm, infoOf, mcuUid, radioUid, in
 use form::Form;
 
 // The bytes of an OK to GET_INFO up to mcu_uid: P 6.2.
-const INFO_SIZE: usize = 36;
+pub const INFO_SIZE: usize = 36;
 // Where mcu_uid_len stands among them.
 const MCU_UID_LEN: usize = 35;
 // The longest uids: P 6.2.

@@ -9,8 +9,8 @@ use denote.Enum.Declared.{tagOf}
 use Rattle.control.specs.declared.Radio.{Radio}
 use Rattle.control.specs.declared.Radio.the-variants.{Free, Listening, OnAir, Orphan, Configuring}
 use Rattle.control.specs.declared.Device.{Device}
-use Rattle.control.specs.declared.Answer.{Answer}
-use Rattle.control.specs.Control.{answerOf, Gives}
+use Rattle.control.specs.declared.Taken.{Taken}
+use Rattle.control.specs.Control.{doneAt, Gives}
 use Rattle.control.proofs.Laws.{silent}
 use Rattle.control.proofs.Radio.{the-type}
 use Rattle.queue.specs.Queue.{start, begin}
@@ -19,7 +19,7 @@ use Rattle.intake.specs.Intake.{pends, sets}
 -- ---- TX
 
 -- one that starts says nothing
-pub starts : (m : List ℕ) (k n : ℕ) (d : Device) (o : List ℕ) (at : ℕ) {r : Answer} → r ≡ answerOf at (start m k n d) → Gives (start m k n d) o at r o
+pub starts : (m : List ℕ) (k n : ℕ) (d : Device) (o : List ℕ) (at : ℕ) {r : Taken} → r ≡ doneAt at (start m k n d) → Gives (start m k n d) o at r o
 unfolding start
 starts m k n d o at e = silent (start m k n d) o at refl e
 

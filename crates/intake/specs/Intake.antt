@@ -7,14 +7,15 @@ use mathlib.Core.List.{List, [], _∷_}
 use lib.ListN.{length}
 use Rattle.board.specs.Board.{txMax}
 use Rattle.device.specs.State.{held}
-use Rattle.device.specs.Messages.{seen, ok, txDone, CANCELLED}
+use Rattle.kind.specs.Kinds.{CANCELLED}
+use Rattle.device.specs.Messages.{seen, ok, txDone}
 use Rattle.control.specs.declared.Radio.{Radio}
 use Rattle.control.specs.declared.Radio.the-variants.{Free, Listening, OnAir, Orphan, Configuring}
 use Rattle.control.specs.declared.Air.{Air}
 use Rattle.control.specs.declared.Device.{Device}
 use Rattle.control.specs.declared.Order.the-variants.{Nothing}
-use Rattle.control.specs.declared.Answer.{Answer}
-use Rattle.control.specs.Control.{radioOf, air, withAir, withInbox, deaf, free?, Done, taken, says, Gives}
+use Rattle.control.specs.declared.Taken.{Taken}
+use Rattle.control.specs.Control.{radioOf, air, withAir, withInbox, deaf, free?, Done, does, says, Gives}
 use Rattle.slot.specs.Slots.{setting, kept}
 use Rattle.queue.specs.Queue.{start, begin}
 
@@ -36,7 +37,7 @@ abbrev pub slotFor : Air → ℕ
 slotFor a = (a .first + a .waiting) % txMax
 
 abbrev pub waitsToo : Device → Done
-waitsToo d = taken (withAir d (air (d .air .radio) (d .air .pending) (d .air .first) (d .air .waiting + 1))) [] Nothing
+waitsToo d = does (withAir d (air (d .air .radio) (d .air .pending) (d .air .first) (d .air .waiting + 1))) [] Nothing
 
 unfoldable pub onTx : ℕ → List ℕ → List ℕ → Device → Ruled
 onTx t p m d =
@@ -46,7 +47,7 @@ onTx t p m d =
 -- ---- SET_CONFIG: with a TX or an orphan on air it waits, and otherwise it cancels every open TX
 
 abbrev pub pends : Device → Done
-pends d = taken (withAir d (air (d .air .radio) true (d .air .first) (d .air .waiting))) [] Nothing
+pends d = does (withAir d (air (d .air .radio) true (d .air .first) (d .air .waiting))) [] Nothing
 
 abbrev pub sets : Radio → List ℕ → Device → Done
 sets Free m d = begin m d
@@ -62,6 +63,6 @@ onSet t p m d =
 
 -- ---- the contract
 
-pub record Rules (x : Ruled) (o : List ℕ) (r : Answer) (o' m' : List ℕ) : Type 0 where
+pub record Rules (x : Ruled) (o : List ℕ) (r : Taken) (o' m' : List ℕ) : Type 0 where
   pub gives : Gives (x .done) o 0 r o'
   pub commands : m' ≡ x .commands

@@ -3,14 +3,17 @@
 ghost use mathlib.Core.Path.{_≡_};
 ghost use Prim.Native.Nat.{_≤_, _<_};
 ghost use lib.ListN.{length};
+ghost use Rattle.board.specs.Board.{txMax};
+ghost use Rattle.device.specs.Events.{roomMin};
+ghost use Rattle.slot.specs.Slots.{keptMax};
 ghost use Rattle.intake.specs.Intake.{Rules, open#, onTx, onSet};
 use board::TX_MAX;
 use control::Air;
-use control::Answer;
 use control::Device;
 use control::Order;
 use control::Radio;
-use queue::CANCELLED;
+use control::Taken;
+use kind::CANCELLED;
 use slot::COMMANDS;
 use slot::SETTING;
 
@@ -21,10 +24,10 @@ pub fn tx(
     payload: &[u8],
     commands: &mut [u8; COMMANDS],
     out: &mut [u8],
-) -> Answer
-    requires { ⌜ 283 ≤ length (now out) ⌝ }
-    requires { ⌜ (1 ≤ length (now payload)) × (length (now payload) ≤ 256) ⌝ }
-    requires { ⌜ open# (d .air) < 16 ⌝ }
+) -> Taken
+    requires { ⌜ roomMin ≤ length (now out) ⌝ }
+    requires { ⌜ (1 ≤ length (now payload)) × (length (now payload) ≤ keptMax) ⌝ }
+    requires { ⌜ open# (d .air) < txMax ⌝ }
     ensures { λ r. ⌜ Rules (onTx tag (now (payload .entry)) (now (commands .entry)) d) (now (out .entry)) r (now (out .exit)) (now (commands .exit)) ⌝ }
 {
     let was = d.air;
@@ -44,7 +47,7 @@ pub fn tx(
         waiting: more,
     };
     let e = control::with_air(d, air);
-    control::accept(e, w, Order::Nothing)
+    control::done(e, w, Order::Nothing)
 }
 
 // A SET_CONFIG that is taken. Its OK comes when the radio is configured.
@@ -54,9 +57,9 @@ pub fn set_config(
     payload: &[u8],
     commands: &mut [u8; COMMANDS],
     out: &mut [u8],
-) -> Answer
-    requires { ⌜ 283 ≤ length (now out) ⌝ }
-    requires { ⌜ (1 ≤ length (now payload)) × (length (now payload) ≤ 256) ⌝ }
+) -> Taken
+    requires { ⌜ roomMin ≤ length (now out) ⌝ }
+    requires { ⌜ (1 ≤ length (now payload)) × (length (now payload) ≤ keptMax) ⌝ }
     ensures { λ r. ⌜ Rules (onSet tag (now (payload .entry)) (now (commands .entry)) d) (now (out .entry)) r (now (out .exit)) (now (commands .exit)) ⌝ }
 {
     slot::keep(SETTING, tag, payload, commands);
@@ -78,7 +81,7 @@ pub fn set_config(
                 waiting: was.waiting,
             };
             let f = control::with_air(e, air);
-            return control::accept(f, 0, Order::Nothing);
+            return control::done(f, 0, Order::Nothing);
         }
         _ => {
             return queue::configure(e, commands, out, 0);

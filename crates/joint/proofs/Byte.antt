@@ -13,7 +13,8 @@ use Rattle.frame.specs.Reading.{openAnswer}
 use Rattle.board.specs.Board.{sx1262}
 use Rattle.device.specs.State.{State}
 use Rattle.device.specs.State as S
-use Rattle.device.specs.Messages.{err, EFRAME}
+use Rattle.kind.specs.Kinds.{EFRAME}
+use Rattle.device.specs.Messages.{err}
 use Rattle.device.specs.Frames.{Received, damaged, command, received}
 use Rattle.device.specs.Events as E
 use Rattle.device.proofs.Ranges.{AirIn, ReceivedIn, received-in}
@@ -62,7 +63,7 @@ module _ {d : Device} {run m ps : List ℕ} {s : State} (h : Stands d run m ps s
       (sym (long-damaged (r ∷ rs) e))
       (brings damaged tt (suc n) (rw (lt-ltb 282 (suc n) (omega arith))))
 
-  pub on-byte : (b : ℕ) → Agrees (onByte b run m d .done) (onByte b run m d .run) (onByte b run m d .commands) ps (E.onByte sx1262 b s)
+  pub on-byte : (b : ℕ) → Agrees (onByte b run m d .gives) (onByte b run m d .run) (onByte b run m d .commands) ps (E.onByte sx1262 b s)
   unfolding onZero
   on-byte zero = on-run (d .link .run) (s .link .run) (h .link .bytes) bytes
   on-byte (suc n) = on-join h (suc n)

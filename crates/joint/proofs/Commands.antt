@@ -14,7 +14,7 @@ use Rattle.buffer.specs.Lay.{lay}
 use Rattle.buffer.proofs.Laws.{length-lay}
 use Rattle.scalar.specs.Bytes.{Bytes}
 use Rattle.scalar.specs.Scalars.{le, number}
-use Rattle.kind.specs.Kinds.{GET-INFO, SET-CONFIG, TX, RX-START, RX-STOP}
+use Rattle.kind.specs.Kinds.{GET-INFO, SET-CONFIG, TX, RX-START, RX-STOP, CANCELLED}
 use Rattle.form.specs.Forms.{exactly}
 use Rattle.form.proofs.Laws.{exactly-size}
 use Rattle.modulation.specs.Modulations.{configForm}
@@ -22,7 +22,7 @@ use Rattle.modulation.proofs.Laws.{form-bounds, config-same}
 use Rattle.board.specs.Board.{sx1262}
 use Rattle.device.specs.State.{Setting, Tx, State, held, tagsOf}
 use Rattle.device.specs.State as S
-use Rattle.device.specs.Messages.{Message, seen, ok, okInfo, err, txDone, CANCELLED}
+use Rattle.device.specs.Messages.{Message, seen, ok, okInfo, err, txDone}
 use Rattle.device.specs.Frames.{objects, objection, settingOf, txOf}
 use Rattle.device.specs.Events.{changed}
 use Rattle.device.specs.Events as E
@@ -32,7 +32,7 @@ use Rattle.control.specs.declared.Radio.{Radio}
 use Rattle.control.specs.declared.Air.{Air}
 use Rattle.control.specs.declared.Device.{Device}
 use Rattle.control.specs.declared.Order.the-variants.{Nothing}
-use Rattle.control.specs.Control.{free?, runs?, stalled, deaf, withInbox, unconfigured, Done, says, taken, idle}
+use Rattle.control.specs.Control.{free?, runs?, stalled, deaf, withInbox, unconfigured, Done, does, says, idle}
 use Rattle.slot.specs.Slots.{setting, slotBytes, kept}
 use Rattle.queue.specs.Queue.{start}
 use Rattle.objection.proofs.Laws.{none-set, none-tx, TxIn}
@@ -144,7 +144,6 @@ module _ {d : Device} {run m ps : List ℕ} {s : State} (h : Stands d run m ps s
                 ring = more;
                 long = long';
               };
-          number = refl;
           said = refl;
           order = refl;
         }
@@ -212,7 +211,7 @@ module _ {d : Device} {run m ps : List ℕ} {s : State} (h : Stands d run m ps s
 
     pended : (q : S.Radio) → RadioAs (kept m setting t p) (d .air .radio) q
         → Agrees (pends (withInbox d (deaf (d .inbox)))) run (kept m setting t p) ps
-        (E.taken (S.withAir (S.air q (s .air .waiting) (some c)) (S.withInbox S.deaf s)) [] S.nothing)
+        (E.does (S.withAir (S.air q (s .air .waiting) (some c)) (S.withInbox S.deaf s)) [] S.nothing)
     pended q r =
         quietly
         (with-air deafened record {
@@ -252,7 +251,6 @@ module _ {d : Device} {run m ps : List ℕ} {s : State} (h : Stands d run m ps s
               ring = h .inbox .ring;
               long = h .inbox .long;
             };
-        number = refl;
         said = refl;
         order =
             ap₂ (λ (v w : Bool). orderIn m (cond (v && changed on w) (idle on) Nothing)) (same-free (h .air .radio)) (h .inbox .receiving)
@@ -263,12 +261,12 @@ module _ {d : Device} {run m ps : List ℕ} {s : State} (h : Stands d run m ps s
       go true = idle-as m on
       go false = refl
 
-  pub answers : (a : Message) → Agrees (taken d (seen a ∷ []) Nothing) run m ps (E.says a S.nothing s)
-  answers a = record { next = h; number = refl; said = refl; order = refl }
+  pub answers : (a : Message) → Agrees (does d (seen a ∷ []) Nothing) run m ps (E.says a S.nothing s)
+  answers a = record { next = h; said = refl; order = refl }
 
   -- ---- a command
 
-  abbrev pub Ruling : Ruled → E.Out → Type 0
+  abbrev pub Ruling : Ruled → E.Done → Type 0
   Ruling x o = Agrees (x .done) run (x .commands) ps o
 
   module _ (kind t : ℕ) (p : List ℕ) (tag : TagIn t) (bytes : Bytes p) (g : AirIn (s .air)) (q : s .air .radio ≡ S.free → s .air .waiting ≡ []) where
@@ -279,8 +277,8 @@ module _ {d : Device} {run m ps : List ℕ} {s : State} (h : Stands d run m ps s
     at-once : (rx-start rx-stop get-info : Bool)
         → Agrees (cond rx-start (turned true t d)
         (cond rx-stop (turned false t d)
-        (cond get-info (taken d (seen (okInfo sx1262 t) ∷ []) Nothing)
-        (taken d (seen (ok t) ∷ []) Nothing)))) run m ps
+        (cond get-info (does d (seen (okInfo sx1262 t) ∷ []) Nothing)
+        (does d (seen (ok t) ∷ []) Nothing)))) run m ps
         (cond rx-start (E.turned true t s)
         (cond rx-stop (E.turned false t s)
         (cond get-info (E.says (okInfo sx1262 t) S.nothing s)
@@ -294,7 +292,7 @@ module _ {d : Device} {run m ps : List ℕ} {s : State} (h : Stands d run m ps s
     unfolding atOnce
     obeys e = go (eqb kind TX) refl (eqb kind SET-CONFIG) refl (at-once (eqb kind RX-START) (eqb kind RX-STOP) (eqb kind GET-INFO))
       where
-        go : (tx : Bool) → eqb kind TX ≡ tx → (set : Bool) → eqb kind SET-CONFIG ≡ set → {x : Done} {o : E.Out} → Agrees x run m ps o
+        go : (tx : Bool) → eqb kind TX ≡ tx → (set : Bool) → eqb kind SET-CONFIG ≡ set → {x : Done} {o : E.Done} → Agrees x run m ps o
             → Ruling (cond tx (onTx t p m d) (cond set (onSet t p m d) (ruled x m)))
             (cond tx (E.onTx (txOf t p) (s .air .radio) s) (cond set (E.onSet (settingOf t p) (s .air .radio) (S.withInbox S.deaf s)) o))
         go true a set b y =

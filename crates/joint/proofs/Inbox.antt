@@ -26,9 +26,9 @@ use Rattle.device.specs.Events as E
 use Rattle.control.specs.declared.Radio.{Radio}
 use Rattle.control.specs.declared.Device.{Device}
 use Rattle.control.specs.Control.{free?, inbox}
-use Rattle.inbox.specs.Packets.{slotBytes, kept, counted, payloadAt, more, onPacket, onRequest}
+use Rattle.inbox.specs.Packets.{heldBytes, kept, counted, payloadAt, more, onPacket, onRequest}
 use Rattle.joint.proofs.Slots.{At, inside, wheel64, ring-push, ring-kept}
-use Rattle.joint.proofs.Stands.{RadioAs, as-free, as-listening, as-onAir, as-orphan, as-configuring, Packets, InboxAs, Stands, Agrees, quietly, refuses, with-inbox}
+use Rattle.joint.proofs.Stands.{RadioAs, as-free, as-listening, as-onAir, as-orphan, as-configuring, Packets, InboxAs, Stands, Agrees, quietly, Answered, takes, refuses, with-inbox}
 
 pub same-free : {m : List ℕ} {r : Radio} {q : S.Radio} → RadioAs m r q → free? r ≡ S.free? q
 same-free as-free = refl
@@ -60,7 +60,7 @@ unfolding fields rxBytes lay le
 length-fields p = refl
 
 -- a count is stored
-count-in : (m : List ℕ) (at n : ℕ) (p : Packet) → At m at (slotBytes p) → at + 18 ≤ length m → At (lay (at + 18) (le 2 n) m) at (counts p n)
+count-in : (m : List ℕ) (at n : ℕ) (p : Packet) → At m at (heldBytes p) → at + 18 ≤ length m → At (lay (at + 18) (le 2 n) m) at (counts p n)
 unfolding le
 count-in m at n p s h =
     subst (λ (bs : List ℕ). At (lay (at + 18) (le 2 n) m) at bs) (sym (parts p n))
@@ -87,21 +87,21 @@ module _ {d : Device} {run m ps : List ℕ} {s : State} (h : Stands d run m ps s
     abbrev slot : ℕ
     slot = (d .inbox .first + d .inbox .held) % 64
 
-    short : length (slotBytes (cut p)) ≤ 276
+    short : length (heldBytes (cut p)) ≤ 276
     short = omega (arith, length-rx (cut p) 0, length-take 255 (p .bytes))
 
-    fits : slot * 276 + length (slotBytes (cut p)) ≤ length ps
+    fits : slot * 276 + length (heldBytes (cut p)) ≤ length ps
     fits = omega (arith, short, i .long)
 
     length-kept : length (kept ps slot (cut p)) ≡ 17664
     unfolding kept
-    length-kept = length-lay (slot * 276) (slotBytes (cut p)) ps fits ∙ i .long
+    length-kept = length-lay (slot * 276) (heldBytes (cut p)) ps fits ∙ i .long
 
     -- in the slot past the last
     push : length (s .inbox .ring) < 64 → Packets (kept ps slot (cut p)) (d .inbox .first) (s .inbox .ring ++ (cut p ∷ []))
     unfolding kept
     push l =
-        ring-push 276 64 slotBytes wheel64 ps (cut p) slot short fits (d .inbox .first) (s .inbox .ring) (i .first) l
+        ring-push 276 64 heldBytes wheel64 ps (cut p) slot short fits (d .inbox .first) (s .inbox .ring) (i .first) l
         (ap (λ (n : ℕ). (d .inbox .first + n) % 64) (i .count)) (i .ring)
 
     -- or, of 64, in the slot of the oldest
@@ -112,7 +112,7 @@ module _ {d : Device} {run m ps : List ℕ} {s : State} (h : Stands d run m ps s
     turn (x ∷ rs) l r e =
         let k : d .inbox .first % 64 ≡ d .inbox .first = omega (arith, i .first) in
         let n : length rs ≡ 63 = omega arith in
-        ring-push 276 64 slotBytes wheel64 ps (cut p) slot short fits ((d .inbox .first % 64 + 1) % 64) rs (omega arith) (omega arith)
+        ring-push 276 64 heldBytes wheel64 ps (cut p) slot short fits ((d .inbox .first % 64 + 1) % 64) rs (omega arith) (omega arith)
         (e ∙ rw n (omega (arith, i .first)))
         (subst (λ (j : ℕ). Packets ps ((j + 1) % 64) rs) (sym k) (r .1))
 
@@ -151,15 +151,15 @@ module _ {d : Device} {run m ps : List ℕ} {s : State} (h : Stands d run m ps s
         go true false e f = absurd (omega (arith, ltb-true (d .inbox .held) 64 e, ltb-false (length (s .inbox .ring)) 64 f, i .count))
         go false true e f = absurd (omega (arith, ltb-false (d .inbox .held) 64 e, ltb-true (length (s .inbox .ring)) 64 f, i .count))
 
-    pub on-packet : (v : Bool) → Agrees (onPacket v p ps d .done) run m (onPacket v p ps d .packets) (E.onPacket v p s)
-    on-packet true = quietly (with-inbox h keeps-one)
+    pub on-packet : (v : Bool) → Answered (onPacket v p ps d .gives) run m (onPacket v p ps d .packets) (E.onPacket v p s)
+    on-packet true = takes (quietly (with-inbox h keeps-one))
     on-packet false = refuses h 3
 
   length-counted : (k : ℕ) → k * 276 + 20 ≤ length ps → length (counted ps k (d .inbox .drops)) ≡ 17664
   unfolding counted le
   length-counted k z = length-lay (k * 276 + 18) (le 2 (d .inbox .drops)) ps (omega arith) ∙ i .long
 
-  counted-in : (k : ℕ) (x : Packet) → At ps (k * 276) (slotBytes x) → k * 276 + 20 ≤ length ps
+  counted-in : (k : ℕ) (x : Packet) → At ps (k * 276) (heldBytes x) → k * 276 + 20 ≤ length ps
       → At (counted ps k (d .inbox .drops)) (k * 276) (counts x (d .inbox .drops))
   unfolding counted
   counted-in k x a z = count-in ps (k * 276) (d .inbox .drops) x a (omega arith)
@@ -167,18 +167,18 @@ module _ {d : Device} {run m ps : List ℕ} {s : State} (h : Stands d run m ps s
   left : (k : ℕ) (rs : List Packet) → k < 64 → length rs ≤ 63 → Packets ps ((k + 1) % 64) rs → Packets (counted ps k (d .inbox .drops)) ((k + 1) % 64) rs
   unfolding counted le
   left k rs a b r =
-      ring-kept 276 64 slotBytes wheel64 ps k (k * 276 + 18) (le 2 (d .inbox .drops)) (omega arith) (omega arith) (omega (arith, i .long))
+      ring-kept 276 64 heldBytes wheel64 ps k (k * 276 + 18) (le 2 (d .inbox .drops)) (omega arith) (omega arith) (omega (arith, i .long))
       ((k + 1) % 64) 63 rs (omega arith) b (omega arith) (omega arith) r
 
   answers : (x : Packet) → rxBytes (rxValue x (d .inbox .drops)) ++ x .bytes ≡ answerBytes (rx x (s .inbox .drops) .answer) (x .bytes)
   unfolding answerBytes
   answers x = ap (λ (n : ℕ). rxBytes (rxValue x n) ++ x .bytes) (i .drops)
 
-  pub on-request : Agrees (onRequest (d .inbox .held) ps d .done) run m (onRequest (d .inbox .held) ps d .packets) (E.onRequest (s .inbox .ring) s)
+  pub on-request : Agrees (onRequest (d .inbox .held) ps d .gives) run m (onRequest (d .inbox .held) ps d .packets) (E.onRequest (s .inbox .ring) s)
   on-request = go (d .inbox .held) (s .inbox .ring) (i .count) (i .ring) (i .few)
     where
       go : (n : ℕ) (rs : List Packet) → n ≡ length rs → Packets ps (d .inbox .first) rs → length rs ≤ 64
-          → Agrees (onRequest n ps d .done) run m (onRequest n ps d .packets) (E.onRequest rs s)
+          → Agrees (onRequest n ps d .gives) run m (onRequest n ps d .packets) (E.onRequest rs s)
       go zero [] l r f = quietly h
       go zero (x ∷ rs) l r f = absurd (omega arith)
       go (suc n) [] l r f = absurd (omega arith)
@@ -186,7 +186,7 @@ module _ {d : Device} {run m ps : List ℕ} {s : State} (h : Stands d run m ps s
           let k = d .inbox .first % 64 in
           let e : d .inbox .first ≡ k = omega (arith, i .first) in
           let z : k * 276 + 20 ≤ length ps = omega (arith, i .long) in
-          let c = counted-in k x (subst (λ (j : ℕ). At ps (j * 276) (slotBytes x)) e (r .0 .at)) z in
+          let c = counted-in k x (subst (λ (j : ℕ). At ps (j * 276) (heldBytes x)) e (r .0 .at)) z in
           record {
             next =
                 with-inbox h record {
@@ -198,7 +198,6 @@ module _ {d : Device} {run m ps : List ℕ} {s : State} (h : Stands d run m ps s
                   ring = left k rs (omega arith) (omega arith) (subst (λ (j : ℕ). Packets ps ((j + 1) % 64) rs) e (r .1));
                   long = length-counted k z;
                 };
-            number = refl;
             said = ap (λ (bs : List ℕ). frame RX 0 bs ∷ []) (delivers (counted ps k (d .inbox .drops)) k (d .inbox .drops) x c ∙ answers x);
             order = refl;
           }

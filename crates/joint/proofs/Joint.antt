@@ -17,7 +17,7 @@ use Rattle.board.specs.Board.{sx1262}
 use Rattle.device.specs.State.{State, Packet, Event, byte, tick, clear, busy, sent, configured, fault, packet, request, disconnect}
 use Rattle.device.specs.State as S
 use Rattle.device.specs.Messages.{wires}
-use Rattle.device.specs.Events.{Out, Reply, reply, step, onEvent, unlessRoom}
+use Rattle.device.specs.Events.{ticksMax, Reply, reply, step, onEvent, unlessRoom}
 use Rattle.device.specs.Events as E
 use Rattle.device.proofs.Keeping.{is-free, Shaped, none-waits}
 use Rattle.device.proofs.Keeping as K
@@ -29,16 +29,16 @@ use Rattle.control.specs.declared.Radio.{Radio}
 use Rattle.control.specs.declared.Radio.the-variants.{Free, Listening, OnAir, Orphan, Configuring}
 use Rattle.control.specs.declared.Device.{Device}
 use Rattle.control.specs.declared.Order.the-variants.{Nothing}
-use Rattle.control.specs.Control.{link, withLink, free?, stalled, Done, refused, taken, within}
-use Rattle.outcome.specs.Outcomes.{onClear, onBusy, onSent, onFault, clearDone, busyDone, sentDone, faultDone}
-use Rattle.inbox.specs.Packets.{onPacket, onRequest, packetDone, requestDone}
-use Rattle.session.specs.Session.{endSession, onTick, onDisconnect, tickDone, disconnectDone}
-use Rattle.configured.specs.Configured.{onConfigured, configuredDone}
-use Rattle.link.specs.Link.{Fed, fed, onByte, byteDone}
+use Rattle.control.specs.Control.{link, withLink, free?, stalled, does, Out, taken, refused, within}
+use Rattle.outcome.specs.Outcomes.{onClear, onBusy, onSent, onFault, clearOut, busyOut, sentOut, faultOut}
+use Rattle.inbox.specs.Packets.{onPacket, onRequest, packetOut, requestOut}
+use Rattle.session.specs.Session.{endSession, onTick, onDisconnect, tickOut, disconnectOut}
+use Rattle.configured.specs.Configured.{onConfigured, configuredOut}
+use Rattle.link.specs.Link.{Fed, fed, onByte, byteOut}
 use Rattle.machine.specs.Machine.{Machine, Call, Ran, speaks, keepsStill, runsOn, runs}
 use Rattle.joint.specs.Seen.{replyOf}
 use Rattle.joint.specs.Joined.{Memories, started, inputOf, CallIn, answers, replies, Joined}
-use Rattle.joint.proofs.Stands.{as-free, Stands, Agrees, refuses, empty-link, empty-air, empty-inbox}
+use Rattle.joint.proofs.Stands.{as-free, Stands, Answered, takes, refuses, empty-link, empty-air, empty-inbox}
 use Rattle.joint.proofs.Outcomes.{on-clear, on-busy, on-sent, on-configured, on-fault}
 use Rattle.joint.proofs.Inbox.{same-free, on-packet, on-request}
 use Rattle.joint.proofs.Link.{same-stalled, on-tick, on-disconnect}
@@ -51,11 +51,11 @@ abbrev pub Stood : Machine → State → Type 0
 Stood y s = Stands (y .device) (y .run) (y .commands) (y .packets) s
 
 -- it is answered alike, and stands for the next state
-pub record Alike (x : Ran) (o : Out) : Type 0 where
+pub record Alike (x : Ran) (o : E.Out) : Type 0 where
   pub reply : replyOf x ≡ reply o
   pub next : Stood (x .next) (o .next)
 
-module _ {x : Done} {run m p : List ℕ} {o : Out} (a : Agrees x run m p o) (out : List ℕ) where
+module _ {x : Out} {run m p : List ℕ} {o : E.Out} (a : Answered x run m p o) (out : List ℕ) where
   same-bytes : sends (x .said) ≡ wires (o .written)
   same-bytes = ap sends (a .said) ∙ sends-seen (o .written)
 
@@ -64,9 +64,8 @@ module _ {x : Done} {run m p : List ℕ} {o : Out} (a : Agrees x run m p o) (out
   speaking =
       record {
         reply =
-            let e : 0 + length (sends (x .said)) ≡ length (sends (x .said)) = omega arith in
-            let b : take (0 + length (sends (x .said))) (lay 0 (sends (x .said)) out) ≡ wires (o .written) = rw e (take-laid (sends (x .said)) out) ∙ same-bytes in
-            let n : 0 + length (sends (x .said)) ≡ length (wires (o .written)) = e ∙ ap length same-bytes in
+            let b : take (length (sends (x .said))) (lay 0 (sends (x .said)) out) ≡ wires (o .written) = take-laid (sends (x .said)) out ∙ same-bytes in
+            let n : length (sends (x .said)) ≡ length (wires (o .written)) = ap length same-bytes in
             λ j. record { number = a .number j; count = n j; bytes = b j; order = a .order j };
         next = a .next;
       }
@@ -76,9 +75,8 @@ module _ {x : Done} {run m p : List ℕ} {o : Out} (a : Agrees x run m p o) (out
   still q =
       record {
         reply =
-            let b : take (0 + length (sends (x .said))) out ≡ wires (o .written) = rw q (sym (ap sends q) ∙ same-bytes) in
-            let e : 0 + length (sends (x .said)) ≡ length (sends (x .said)) = omega arith in
-            let n : 0 + length (sends (x .said)) ≡ length (wires (o .written)) = e ∙ ap length same-bytes in
+            let b : take (length (sends (x .said))) out ≡ wires (o .written) = rw q (sym (ap sends q) ∙ same-bytes) in
+            let n : length (sends (x .said)) ≡ length (wires (o .written)) = ap length same-bytes in
             λ j. record { number = a .number j; count = n j; bytes = b j; order = a .order j };
         next = a .next;
       }
@@ -93,9 +91,10 @@ quiet-clear Configuring d = refl
 
 quiet-tick : (d : Device) → onTick d .said ≡ []
 unfolding endSession
-quiet-tick d = go (d .link .session && not (stalled (d .air))) (leb 999 (d .link .ticks))
+quiet-tick d = go (d .link .session && not (stalled (d .air))) (leb ticksMax (d .link .ticks + 1))
   where
-    go : (v a : Bool) → cond v (cond a (endSession d) (taken (withLink d (link true (d .link .ticks + 1) (d .link .run))) [] Nothing)) (taken d [] Nothing) .said ≡ []
+    go : (v a : Bool) → cond v (cond a (endSession d) (does (withLink d (link true (d .link .ticks + 1) (d .link .run))) [] Nothing))
+        (does d [] Nothing) .said ≡ []
     go true true = refl
     go true false = refl
     go false a = refl
@@ -105,7 +104,7 @@ unfolding endSession
 quiet-disconnect true d = refl
 quiet-disconnect false d = refl
 
-quiet-packet : (v : Bool) (p : Packet) (ps : List ℕ) (d : Device) → onPacket v p ps d .done .said ≡ []
+quiet-packet : (v : Bool) (p : Packet) (ps : List ℕ) (d : Device) → onPacket v p ps d .gives .said ≡ []
 quiet-packet true p ps d = refl
 quiet-packet false p ps d = refl
 
@@ -117,12 +116,12 @@ module _ (y : Machine) (s : State) (h : Stood y s) (q : Shaped s) (g : StateIn s
   abbrev short : Bool
   short = ltb (length o) 283
 
-  by-room : (v : Bool) (e : Event) (x : Done) (ps : List ℕ) → Agrees x (y .run) (y .commands) ps (onEvent sx1262 e s)
-      → Agrees (cond v (refused ROOM d) x) (y .run) (y .commands) (cond v (y .packets) ps) (unlessRoom v sx1262 e s)
+  by-room : (v : Bool) (e : Event) (x : Out) (ps : List ℕ) → Answered x (y .run) (y .commands) ps (onEvent sx1262 e s)
+      → Answered (cond v (refused ROOM d) x) (y .run) (y .commands) (cond v (y .packets) ps) (unlessRoom v sx1262 e s)
   by-room true e x ps a = refuses h 1
   by-room false e x ps a = a
 
-  quiet-room : (v : Bool) (x : Done) → x .said ≡ [] → cond v (refused ROOM d) x .said ≡ []
+  quiet-room : (v : Bool) (x : Out) → x .said ≡ [] → cond v (refused ROOM d) x .said ≡ []
   quiet-room true x e = refl
   quiet-room false x e = e
 
@@ -131,22 +130,24 @@ module _ (y : Machine) (s : State) (h : Stood y s) (q : Shaped s) (g : StateIn s
   same-packets false = refl
 
   -- an event that leaves the memories
-  leaves : (e : Event) (x : Done) → Agrees x (y .run) (y .commands) (y .packets) (onEvent sx1262 e s)
-      → Agrees (cond short (refused ROOM d) x) (y .run) (y .commands) (y .packets) (unlessRoom short sx1262 e s)
+  leaves : (e : Event) (x : Out) → Answered x (y .run) (y .commands) (y .packets) (onEvent sx1262 e s)
+      → Answered (cond short (refused ROOM d) x) (y .run) (y .commands) (y .packets) (unlessRoom short sx1262 e s)
   leaves e x a =
-      subst (λ (ps : List ℕ). Agrees (cond short (refused ROOM d) x) (y .run) (y .commands) ps (unlessRoom short sx1262 e s)) (same-packets short)
+      subst (λ (ps : List ℕ). Answered (cond short (refused ROOM d) x) (y .run) (y .commands) ps (unlessRoom short sx1262 e s)) (same-packets short)
       (by-room short e x (y .packets) a)
 
   -- a byte: ROOM, then STALL
-  abbrev Feeding : Fed → Out → Type 0
-  Feeding x u = Agrees (x .done) (x .run) (x .commands) (y .packets) u
+  abbrev Feeding : Fed Out → E.Out → Type 0
+  Feeding x u = Answered (x .gives) (x .run) (x .commands) (y .packets) u
 
   feeds : (b : ℕ) (v w : Bool) → stalled (d .air) ≡ w
-      → Feeding (cond v (fed (refused ROOM d) (y .run) (y .commands)) (cond w (fed (refused STALL d) (y .run) (y .commands)) (onByte b (y .run) (y .commands) d)))
+      → let x = onByte b (y .run) (y .commands) d in
+      Feeding (cond v (fed (refused ROOM d) (y .run) (y .commands)) (cond w (fed (refused STALL d) (y .run) (y .commands))
+      (fed (taken (x .gives)) (x .run) (x .commands))))
       (cond v (E.refused ROOM s) (E.unlessStalled w sx1262 b s))
   feeds b true w e = refuses h 1
   feeds b false true e = refuses h 2
-  feeds b false false e = on-byte h e (g .air) (none-waits q) (g .run) b
+  feeds b false false e = takes (on-byte h e (g .air) (none-waits q) (g .run) b)
 
   fed-room : (b : ℕ) (v : Bool) → cond v (E.refused ROOM s) (E.unlessStalled (stalled (d .air)) sx1262 b s) ≡ unlessRoom v sx1262 (byte b) s
   fed-room b true = refl
@@ -154,18 +155,18 @@ module _ (y : Machine) (s : State) (h : Stood y s) (q : Shaped s) (g : StateIn s
 
   on-fits : (p : Packet)
       → let x = onPacket (d .inbox .receiving && free? (d .air .radio)) p (y .packets) d in
-      Agrees (x .done) (y .run) (y .commands) (x .packets) (onEvent sx1262 (packet p) s)
+      Answered (x .gives) (y .run) (y .commands) (x .packets) (onEvent sx1262 (packet p) s)
   on-fits p =
-      subst (λ (v : Bool). Agrees (onPacket (d .inbox .receiving && free? (d .air .radio)) p (y .packets) d .done) (y .run) (y .commands)
+      subst (λ (v : Bool). Answered (onPacket (d .inbox .receiving && free? (d .air .radio)) p (y .packets) d .gives) (y .run) (y .commands)
       (onPacket (d .inbox .receiving && free? (d .air .radio)) p (y .packets) d .packets) (E.onPacket v p s))
       (ap₂ _&&_ (h .inbox .receiving) (same-free (h .air .radio)))
       (on-packet h p (d .inbox .receiving && free? (d .air .radio)))
 
   steps : (e : Event) → Alike (runsOn e o y) (unlessRoom short sx1262 e s)
-  unfolding within byteDone tickDone clearDone busyDone sentDone configuredDone faultDone packetDone requestDone disconnectDone
+  unfolding within byteOut tickOut clearOut busyOut sentOut configuredOut faultOut packetOut requestOut disconnectOut
   steps (byte b) =
-      speaking (subst (λ (u : Out). Feeding (byteDone (length o) b (y .run) (y .commands) d) u) (fed-room b short) (feeds b short (stalled (d .air)) refl)) o
-  steps tick = still (leaves tick (onTick d) (on-tick h)) o (quiet-room short (onTick d) (quiet-tick d))
+      speaking (subst (λ (u : E.Out). Feeding (byteOut (length o) b (y .run) (y .commands) d) u) (fed-room b short) (feeds b short (stalled (d .air)) refl)) o
+  steps tick = still (leaves tick (taken (onTick d)) (takes (on-tick h))) o (quiet-room short (taken (onTick d)) (quiet-tick d))
   steps clear =
       still (leaves clear (onClear (d .air .radio) d) (on-clear h (h .air .radio))) o
       (quiet-room short (onClear (d .air .radio) d) (quiet-clear (d .air .radio) d))
@@ -173,17 +174,17 @@ module _ (y : Machine) (s : State) (h : Stood y s) (q : Shaped s) (g : StateIn s
   steps (sent airtime) =
       speaking (leaves (sent airtime) (onSent airtime (d .air .radio) (y .commands) d) (on-sent h (g .air) airtime (h .air .radio))) o
   steps configured = speaking (leaves configured (onConfigured (d .air .radio) (y .commands) d) (on-configured h (h .air .radio))) o
-  steps fault = speaking (leaves fault (onFault (d .air .radio) (y .commands) d) (on-fault h (g .air) (h .air .radio))) o
+  steps fault = speaking (leaves fault (taken (onFault (d .air .radio) (y .commands) d)) (takes (on-fault h (g .air) (h .air .radio)))) o
   steps (packet p) =
       let x = onPacket (d .inbox .receiving && free? (d .air .radio)) p (y .packets) d in
-      still (by-room short (packet p) (x .done) (x .packets) (on-fits p)) o
-      (quiet-room short (x .done) (quiet-packet (d .inbox .receiving && free? (d .air .radio)) p (y .packets) d))
+      still (by-room short (packet p) (x .gives) (x .packets) (on-fits p)) o
+      (quiet-room short (x .gives) (quiet-packet (d .inbox .receiving && free? (d .air .radio)) p (y .packets) d))
   steps request =
       let x = onRequest (d .inbox .held) (y .packets) d in
-      speaking (by-room short request (x .done) (x .packets) (on-request h)) o
+      speaking (by-room short request (taken (x .gives)) (x .packets) (takes (on-request h))) o
   steps disconnect =
-      still (leaves disconnect (onDisconnect (d .link .session) d) (on-disconnect h)) o
-      (quiet-room short (onDisconnect (d .link .session) d) (quiet-disconnect (d .link .session) d))
+      still (leaves disconnect (taken (onDisconnect (d .link .session) d)) (takes (on-disconnect h))) o
+      (quiet-room short (taken (onDisconnect (d .link .session) d)) (quiet-disconnect (d .link .session) d))
 
 -- ---- every list of calls
 

@@ -19,7 +19,7 @@ use Rattle.control.specs.declared.Radio.{Radio}
 use Rattle.control.specs.declared.Air.{Air}
 use Rattle.control.specs.declared.Device.{Device}
 use Rattle.control.specs.declared.Order.the-variants.{Nothing, Standby}
-use Rattle.control.specs.Control.{link, withLink, free?, runs?, stalled, Done, taken}
+use Rattle.control.specs.Control.{link, withLink, free?, runs?, stalled, Done, does}
 use Rattle.session.specs.Session.{ended, endSession, onTick, onDisconnect}
 use Rattle.link.specs.Link.{joined, onJoin}
 use Rattle.joint.specs.Seen.{orderIn}
@@ -70,7 +70,6 @@ module _ {d : Device} {run m p : List ℕ} {s : State} (h : Stands d run m p s) 
               air = empty-air (d .air .first) (ended-as (h .air .radio)) (h .air .first) (h .air .long);
               inbox = empty-inbox (d .inbox .first) (h .inbox .first) (h .inbox .long);
             };
-        number = refl;
         said = refl;
         order = ended-order (h .air .radio);
       }
@@ -82,20 +81,21 @@ module _ {d : Device} {run m p : List ℕ} {s : State} (h : Stands d run m p s) 
   -- ---- tick, disconnect
 
   abbrev ticks : Bool → Bool → Done
-  ticks v a = cond v (cond a (endSession d) (taken (withLink d (link true (d .link .ticks + 1) (d .link .run))) [] Nothing)) (taken d [] Nothing)
+  ticks v a = cond v (cond a (endSession d) (does (withLink d (link true (d .link .ticks + 1) (d .link .run))) [] Nothing)) (does d [] Nothing)
 
   pub on-tick : Agrees (onTick d) run m p (E.onTick s)
   on-tick =
-      subst (λ (v : Bool). Agrees (ticks v (leb 999 (d .link .ticks))) run m p (E.onTick s))
+      subst (λ (v : Bool). Agrees (ticks v (leb 1000 (d .link .ticks + 1))) run m p (E.onTick s))
       (sym (ap₂ (λ (a b : Bool). a && not b) (h .link .session) (same-stalled (h .air))))
-      (go (s .link .session && not (S.stalled (s .air))) (leb 999 (d .link .ticks)) (eqb (suc (s .link .ticks)) ticksMax) refl refl)
+      (go (s .link .session && not (S.stalled (s .air))) (leb 1000 (d .link .ticks + 1)) (eqb (suc (s .link .ticks)) ticksMax) refl refl)
     where
-      go : (v a b : Bool) → leb 999 (d .link .ticks) ≡ a → eqb (suc (s .link .ticks)) 1000 ≡ b
+      go : (v a b : Bool) → leb 1000 (d .link .ticks + 1) ≡ a → eqb (suc (s .link .ticks)) 1000 ≡ b
           → Agrees (ticks v a) run m p
-          (cond v (cond b (E.endSession (s .air .radio)) (E.taken (S.withLink (S.link true (suc (s .link .ticks)) (s .link .run)) s) [] S.nothing)) (E.taken s [] S.nothing))
+          (cond v (cond b (E.endSession (s .air .radio)) (E.does (S.withLink (S.link true (suc (s .link .ticks)) (s .link .run)) s) [] S.nothing))
+          (E.does s [] S.nothing))
       go true true true e f = ends
       go true false false e f =
-          let n = leb-false 999 (d .link .ticks) e in
+          let n = leb-false 1000 (d .link .ticks + 1) e in
           quietly
           (with-link h record {
             session = refl;
@@ -105,8 +105,8 @@ module _ {d : Device} {run m p : List ℕ} {s : State} (h : Stands d run m p s) 
             long = h .link .long;
           })
       go true true false e f =
-          absurd (eqb-false (suc (s .link .ticks)) 1000 f (omega (arith, leb-true 999 (d .link .ticks) e, h .link .ticks, h .link .few)))
-      go true false true e f = absurd (omega (arith, leb-false 999 (d .link .ticks) e, eqb-true (suc (s .link .ticks)) 1000 f, h .link .ticks))
+          absurd (eqb-false (suc (s .link .ticks)) 1000 f (omega (arith, leb-true 1000 (d .link .ticks + 1) e, h .link .ticks, h .link .few)))
+      go true false true e f = absurd (omega (arith, leb-false 1000 (d .link .ticks + 1) e, eqb-true (suc (s .link .ticks)) 1000 f, h .link .ticks))
       go false a b e f = quietly h
 
   pub on-disconnect : Agrees (onDisconnect (d .link .session) d) run m p (E.onDisconnect (s .link .session) s)
@@ -132,17 +132,17 @@ module _ {d : Device} {run m p : List ℕ} {s : State} (h : Stands d run m p s) 
   too-long b n {rs} (as-long l e) k = as-long {rs = rs ++ (b ∷ [])} refl (rw length-append (omega arith))
 
   joins : {n : ℕ} {rs run' : List ℕ} → RunAs run' n rs → length run' ≡ 282
-      → Agrees (joined d n) run' m p (E.taken (S.withLink (S.link (s .link .session) (s .link .ticks) rs) s) [] S.nothing)
+      → Agrees (joined d n) run' m p (E.does (S.withLink (S.link (s .link .session) (s .link .ticks) rs) s) [] S.nothing)
   joins x l =
       quietly (with-link h record { session = h .link .session; ticks = h .link .ticks; few = h .link .few; bytes = x; long = l })
 
-  pub on-join : (b : ℕ) → Agrees (onJoin b run m d .done) (onJoin b run m d .run) (onJoin b run m d .commands) p
-      (E.taken (S.withLink (S.link (s .link .session) (s .link .ticks) (s .link .run ++ (b ∷ []))) s) [] S.nothing)
+  pub on-join : (b : ℕ) → Agrees (onJoin b run m d .gives) (onJoin b run m d .run) (onJoin b run m d .commands) p
+      (E.does (S.withLink (S.link (s .link .session) (s .link .ticks) (s .link .run ++ (b ∷ []))) s) [] S.nothing)
   unfolding onJoin
   on-join b = go (ltb (d .link .run) 282) refl
     where
       go : (v : Bool) → ltb (d .link .run) 282 ≡ v
           → Agrees (joined d (cond v (d .link .run + 1) 283)) (cond v (set run (d .link .run) b) run) m p
-          (E.taken (S.withLink (S.link (s .link .session) (s .link .ticks) (s .link .run ++ (b ∷ []))) s) [] S.nothing)
+          (E.does (S.withLink (S.link (s .link .session) (s .link .ticks) (s .link .run ++ (b ∷ []))) s) [] S.nothing)
       go true e = joins (grows b (d .link .run) (h .link .bytes) (ltb-true (d .link .run) 282 e)) (length-set run (d .link .run) b ∙ h .link .long)
       go false e = joins (too-long b (d .link .run) (h .link .bytes) (ltb-false (d .link .run) 282 e)) (h .link .long)

@@ -28,7 +28,7 @@ use Rattle.device.specs.State.{Config, Setting, Tx, State, Packet, Event, byte,
 use Rattle.device.specs.State as S
 use Rattle.device.specs.Messages.{seen, ok, okInfo}
 use Rattle.device.specs.Frames.{Received, damaged, command, received, objects}
-use Rattle.device.specs.Events.{changed, step}
+use Rattle.device.specs.Events.{changed, ticksMax, roomMin, step}
 use Rattle.device.proofs.Keeping.{Shape, is-orphan, is-alone}
 use Rattle.control.specs.declared.Radio.{Radio}
 use Rattle.control.specs.declared.Radio.the-variants.{Free, Listening, OnAir, Orphan, Configuring}
@@ -36,18 +36,18 @@ use Rattle.control.specs.declared.Air.{Air}
 use Rattle.control.specs.declared.Device.{Device}
 use Rattle.control.specs.declared.Order.{Order}
 use Rattle.control.specs.declared.Order.the-variants.{Nothing, Standby, Transmit}
-use Rattle.control.specs.Control.{link, air, withLink, withInbox, deaf, free?, stalled, unconfigured, Done, taken, refused, within, idle}
+use Rattle.control.specs.Control.{link, air, withLink, withInbox, deaf, free?, stalled, unconfigured, Done, does, Out, taken, refused, within, idle}
 use Rattle.slot.specs.Slots.{slotSize, setting, slotBytes, kept, lenAt, tagAt, headAt}
 use Rattle.queue.specs.Queue as Q
 use Rattle.queue.specs.Queue.{start, begin, next, afterTx}
 use Rattle.objection.proofs.Laws.{none-set, none-tx}
-use Rattle.session.specs.Session.{ended, endSession, onTick, onDisconnect, tickDone, disconnectDone}
-use Rattle.outcome.specs.Outcomes.{onClear, onBusy, onSent, onFault, clearDone, busyDone, sentDone, faultDone}
-use Rattle.configured.specs.Configured.{inForce, onConfigured, configuredDone}
-use Rattle.inbox.specs.Packets.{onPacket, onRequest, packetDone, requestDone}
+use Rattle.session.specs.Session.{ended, endSession, onTick, onDisconnect, tickOut, disconnectOut}
+use Rattle.outcome.specs.Outcomes.{onClear, onBusy, onSent, onFault, clearOut, busyOut, sentOut, faultOut}
+use Rattle.configured.specs.Configured.{inForce, onConfigured, configuredOut}
+use Rattle.inbox.specs.Packets.{onPacket, onRequest, packetOut, requestOut}
 use Rattle.intake.specs.Intake.{Ruled, ruled, open#, slotFor, waitsToo, onTx, pends, sets, onSet}
 use Rattle.dispatch.specs.Commands.{turned, atOnce, onCommand, unless, judged, onReceived}
-use Rattle.link.specs.Link.{Fed, longer, joined, onJoin, onRun, onZero, onByte, byteDone}
+use Rattle.link.specs.Link.{Fed, fed, longer, joined, onJoin, onRun, onZero, onByte, byteOut}
 use Rattle.machine.specs.Machine.{Machine, Call, runsOn, runs}
 use Rattle.joint.specs.Joined.{Memories, started, inputOf, CallIn}
 use Rattle.joint.specs.Named.{Named, onAir, told, heard, naming, StayIf, Orders, Past, onward, after, past, BytesStay, binds, Uninterrupted, codeOrders}
@@ -191,20 +191,28 @@ record Went (e : Event) (a : Air) (n : ℕ) (o : Order) (m : List ℕ) (w : Opti
 
 module _ (m : List ℕ) (d : Device) where
   -- it leaves what the radio needs in the slot that it uses then, and orders nothing while bytes bind the radio
-  abbrev Goes : Event → Done → List ℕ → Type 0
+  abbrev Goes : Event → Out → List ℕ → Type 0
   Goes e x m' = (w : Option Named) → Uses (used (d .air)) w m → Went e (x .next .air) (x .number) (x .order) m' w
 
+  -- of what an event does that is taken
+  abbrev Does : Event → Done → List ℕ → Type 0
+  Does e x m' = Goes e (taken x) m'
+
   -- one of two, by a test
-  either : (v : Bool) (e : Event) (x z : Done) → Goes e x m → Goes e z m → Goes e (cond v x z) m
+  either : (v : Bool) (e : Event) (x z : Done) → Does e x m → Does e z m → Does e (cond v x z) m
   either true e x z a b = a
   either false e x z a b = b
 
   -- neither the memory nor the slot in use changes, nothing is ordered, and the bytes are needed on
-  rests : (e : Event) (x : Done) → ((w : Option Named) → heard e (x .number) w ≡ w) → x .order ≡ Nothing → used (x .next .air) ≡ used (d .air) → Goes e x m
+  rests : (e : Event) (x : Out) → ((w : Option Named) → heard e (x .number) w ≡ w) → x .order ≡ Nothing → used (x .next .air) ≡ used (d .air) → Goes e x m
   rests e x q o u w h = record { uses = rw (o, q w, u) h; alone = λ b. o }
 
   refuses : (e : Event) (n : ℕ) → Goes e (refused (suc n) d) m
   refuses e n = rests e (refused (suc n) d) (λ w. refl) refl refl
+
+  -- the same of what is done
+  stays : (e : Event) (x : Done) → ((w : Option Named) → told e w ≡ w) → x .order ≡ Nothing → used (x .next .air) ≡ used (d .air) → Does e x m
+  stays e x q o u = rests e (taken x) q o u
 
   -- an order may come with the event e, since it has the radio done, or the radio is free, or listens
   abbrev Yields : Event → Type 0
@@ -222,12 +230,12 @@ module _ (m : List ℕ) (d : Device) where
   orders e y w h b = absurd (true≢false (sym b ∙ y w h))
 
   -- the radio uses none
-  frees : (e : Event) → Yields e → (x : Done) (on : Bool) → x .number ≡ 0 → x .order ≡ idle on → used (x .next .air) ≡ none → Goes e x m
-  frees e y x true n o u w h = record { uses = rw (o, u) tt; alone = rw n (orders e y w h) }
-  frees e y x false n o u w h = record { uses = rw (o, u) tt; alone = rw n (orders e y w h) }
+  frees : (e : Event) → Yields e → (x : Done) (on : Bool) → x .order ≡ idle on → used (x .next .air) ≡ none → Does e x m
+  frees e y x true o u w h = record { uses = rw (o, u) tt; alone = orders e y w h }
+  frees e y x false o u w h = record { uses = rw (o, u) tt; alone = orders e y w h }
 
   -- the TX in slot k starts
-  begun : (e : Event) → Yields e → (m' : List ℕ) (k n : ℕ) → k < 16 → lenAt m' k ≤ 255 → Goes e (start m' k n d) m'
+  begun : (e : Event) → Yields e → (m' : List ℕ) (k n : ℕ) → k < 16 → lenAt m' k ≤ 255 → Does e (start m' k n d) m'
   unfolding start
   begun e y m' k n h l w u = record { uses = go (Q.listens (d .mode) (headAt m' k)); alone = orders e y w u }
     where
@@ -236,19 +244,19 @@ module _ (m : List ℕ) (d : Device) where
       go false = record { slot = omega arith; from = omega arith; to = omega arith; same = refl; listens = refl }
 
   -- the radio is configured
-  sets-up : (e : Event) → Yields e → (m' : List ℕ) → lenAt m' setting ≤ 255 → Goes e (begin m' d) m'
+  sets-up : (e : Event) → Yields e → (m' : List ℕ) → lenAt m' setting ≤ 255 → Does e (begin m' d) m'
   unfolding begin
   sets-up e y m' l w u =
       record { uses = record { slot = omega arith; from = omega arith; to = omega arith; same = refl; listens = refl }; alone = orders e y w u }
 
   module _ (s : Sound m (d .air)) where
-    after-tx : (e : Event) → Yields e → Goes e (afterTx m d) m
+    after-tx : (e : Event) → Yields e → Does e (afterTx m d) m
     unfolding afterTx
     after-tx e y = go (d .air .pending) refl (d .air .waiting) refl
       where
-        go : (v : Bool) → d .air .pending ≡ v → (n : ℕ) → d .air .waiting ≡ n → Goes e (next v n m d) m
+        go : (v : Bool) → d .air .pending ≡ v → (n : ℕ) → d .air .waiting ≡ n → Does e (next v n m d) m
         go true p n q = sets-up e y m (s .set p)
-        go false p zero q = frees e y (next false zero m d) (d .inbox .receiving) refl refl refl
+        go false p zero q = frees e y (next false zero m d) (d .inbox .receiving) refl refl
         go false p (suc n) q = begun e y m (d .air .first % 16) n (omega arith) (s .tx n q)
 
     -- ---- the outcomes
@@ -279,7 +287,7 @@ module _ (m : List ℕ) (d : Device) where
     go-sent airtime Orphan = after-tx (sent airtime) (λ w h. refl)
     go-sent airtime Configuring = refuses (sent airtime) 2
 
-    in-force : (v : Bool) → Goes configured (inForce v m d) m
+    in-force : (v : Bool) → Does configured (inForce v m d) m
     in-force true = λ w h. record { uses = tt; alone = λ b. refl }
     in-force false = λ w h. record { uses = tt; alone = λ b. absurd (true≢false (sym b)) }
 
@@ -290,7 +298,7 @@ module _ (m : List ℕ) (d : Device) where
     go-configured Orphan = refuses configured 2
     go-configured Configuring = in-force (d .link .session)
 
-    go-fault : (r : Radio) → Goes fault (onFault r m d) m
+    go-fault : (r : Radio) → Does fault (onFault r m d) m
     go-fault Free = after-tx fault (λ w h. refl)
     go-fault (Listening t) = after-tx fault (λ w h. refl)
     go-fault (OnAir t) = after-tx fault (λ w h. refl)
@@ -300,7 +308,7 @@ module _ (m : List ℕ) (d : Device) where
   -- ---- the session, reception
 
   -- a session's end: a radio that listened is free, and what is on air stays there
-  ends : (e : Event) → ((w : Option Named) → told e w ≡ w) → Goes e (endSession d) m
+  ends : (e : Event) → ((w : Option Named) → told e w ≡ w) → Does e (endSession d) m
   unfolding endSession
   ends e q = go (d .air .radio) refl
     where
@@ -312,35 +320,39 @@ module _ (m : List ℕ) (d : Device) where
       go Orphan f w h = record { uses = rw q (rw f at h); alone = λ b. refl }
       go Configuring f w h = record { uses = rw q (rw f at h); alone = λ b. refl }
 
-  go-tick : Goes tick (onTick d) m
+  go-tick : Does tick (onTick d) m
   go-tick =
       either (d .link .session && not (stalled (d .air))) tick _ _
-      (either (leb 999 (d .link .ticks)) tick _ _ (ends tick (λ w. refl))
-      (rests tick (taken (withLink d (link true (d .link .ticks + 1) (d .link .run))) [] Nothing) (λ w. refl) refl refl))
-      (rests tick (taken d [] Nothing) (λ w. refl) refl refl)
+      (either (leb ticksMax (d .link .ticks + 1)) tick _ _ (ends tick (λ w. refl))
+      (stays tick (does (withLink d (link true (d .link .ticks + 1) (d .link .run))) [] Nothing) (λ w. refl) refl refl))
+      (stays tick (does d [] Nothing) (λ w. refl) refl refl)
 
-  go-disconnect : (v : Bool) → Goes disconnect (onDisconnect v d) m
+  go-disconnect : (v : Bool) → Does disconnect (onDisconnect v d) m
   go-disconnect true = ends disconnect (λ w. refl)
-  go-disconnect false = rests disconnect (onDisconnect false d) (λ w. refl) refl refl
+  go-disconnect false = stays disconnect (onDisconnect false d) (λ w. refl) refl refl
 
-  go-packet : (v : Bool) (p : Packet) (ps : List ℕ) → Goes (packet p) (onPacket v p ps d .done) m
-  go-packet true p ps = rests (packet p) (onPacket true p ps d .done) (λ w. refl) refl refl
+  go-packet : (v : Bool) (p : Packet) (ps : List ℕ) → Goes (packet p) (onPacket v p ps d .gives) m
+  go-packet true p ps = rests (packet p) (onPacket true p ps d .gives) (λ w. refl) refl refl
   go-packet false p ps = refuses (packet p) 2
 
-  go-request : (n : ℕ) (ps : List ℕ) → Goes request (onRequest n ps d .done) m
-  go-request zero ps = rests request (taken d [] Nothing) (λ w. refl) refl refl
-  go-request (suc n) ps = rests request (onRequest (suc n) ps d .done) (λ w. refl) refl refl
+  go-request : (n : ℕ) (ps : List ℕ) → Does request (onRequest n ps d .gives) m
+  go-request zero ps = stays request (does d [] Nothing) (λ w. refl) refl refl
+  go-request (suc n) ps = stays request (onRequest (suc n) ps d .gives) (λ w. refl) refl refl
 
   -- with too little room nothing changes
-  in-room : (room : ℕ) (e : Event) (x : Done) → Goes e x m → Goes e (within room d x) m
+  in-room : (room : ℕ) (e : Event) (x : Out) → Goes e x m → Goes e (within room d x) m
   unfolding within
-  in-room room e x a = either (ltb room 283) e (refused ROOM d) x (refuses e 0) a
+  in-room room e x a = go (ltb room roomMin)
+    where
+      go : (v : Bool) → Goes e (cond v (refused ROOM d) x) m
+      go true = refuses e 0
+      go false = a
 
 -- ---- commands: they come with a zero
 
 module _ (m : List ℕ) (d : Device) (s : Sound m (d .air)) (calm : stalled (d .air) ≡ false) where
   abbrev Rule : Ruled → Type 0
-  Rule x = Goes m d (byte 0) (x .done) (x .commands)
+  Rule x = Does m d (byte 0) (x .done) (x .commands)
 
   -- a TX: it starts, or waits in another slot than the one in use
   go-tx : (t : ℕ) (p : List ℕ) → length p ≤ 256 → open# (d .air) < 16 → Rule (onTx t p m d)
@@ -350,14 +362,14 @@ module _ (m : List ℕ) (d : Device) (s : Sound m (d .air)) (calm : stalled (d .
       m' : List ℕ
       m' = kept m (slotFor (d .air)) t p
 
-      waits : Goes m d (byte 0) (waitsToo d) m'
+      waits : Does m d (byte 0) (waitsToo d) m'
       waits w h =
           record {
             uses = uses-kept m (slotFor (d .air)) t p (s .long) most (omega arith) (used (d .air)) w (s .apart few) h;
             alone = λ b. refl;
           }
 
-      go : (r : Radio) → d .air .radio ≡ r → Goes m d (byte 0) (cond (free? r) (start m' (slotFor (d .air)) (d .air .waiting) d) (waitsToo d)) m'
+      go : (r : Radio) → d .air .radio ≡ r → Does m d (byte 0) (cond (free? r) (start m' (slotFor (d .air)) (d .air .waiting) d) (waitsToo d)) m'
       go Free q =
           begun m d (byte 0) (yields-free m d (byte 0) (λ w. refl) q) m' (slotFor (d .air)) (d .air .waiting) (omega arith)
           (len-kept m (slotFor (d .air)) t p (s .long) most (omega arith))
@@ -377,13 +389,13 @@ module _ (m : List ℕ) (d : Device) (s : Sound m (d .air)) (calm : stalled (d .
       e : Device
       e = withInbox d (deaf (d .inbox))
 
-      now : Yields m d (byte 0) → Goes m d (byte 0) (begin m' e) m'
+      now : Yields m d (byte 0) → Does m d (byte 0) (begin m' e) m'
       now y = sets-up m e (byte 0) y m' (len-kept m setting t p (s .long) most (omega arith))
 
-      waits : Apart setting (used (d .air)) → Goes m d (byte 0) (pends e) m'
+      waits : Apart setting (used (d .air)) → Does m d (byte 0) (pends e) m'
       waits a w h = record { uses = uses-kept m setting t p (s .long) most (omega arith) (used (d .air)) w a h; alone = λ b. refl }
 
-      go : (r : Radio) → d .air .radio ≡ r → Goes m d (byte 0) (sets r m' e) m'
+      go : (r : Radio) → d .air .radio ≡ r → Does m d (byte 0) (sets r m' e) m'
       go Free q = now (yields-free m d (byte 0) (λ w. refl) q)
       go (Listening u) q = now (yields-listening m d (byte 0) (λ w. refl) u q)
       go (OnAir u) q = waits (rw q (λ z. omega arith))
@@ -391,28 +403,28 @@ module _ (m : List ℕ) (d : Device) (s : Sound m (d .air)) (calm : stalled (d .
       go Configuring q = absurd (true≢false (sym (or-true (d .air .pending)) ∙ (rw q at calm)))
 
   -- any other command leaves the radio, but for receive or standby where it is free
-  go-turned : (on : Bool) (t : ℕ) → Goes m d (byte 0) (turned on t d) m
+  go-turned : (on : Bool) (t : ℕ) → Does m d (byte 0) (turned on t d) m
   unfolding turned
   go-turned on t = go (d .air .radio) refl (changed on (d .inbox .receiving)) on
     where
-      still : Goes m d (byte 0) (taken d [] Nothing) m
-      still = rests m d (byte 0) (taken d [] Nothing) (λ w. refl) refl refl
+      still : Does m d (byte 0) (does d [] Nothing) m
+      still = stays m d (byte 0) (does d [] Nothing) (λ w. refl) refl refl
 
-      go : (r : Radio) → d .air .radio ≡ r → (v o : Bool) → Goes m d (byte 0) (taken d [] (cond (free? r && v) (idle o) Nothing)) m
-      go Free q true o = frees m d (byte 0) (yields-free m d (byte 0) (λ w. refl) q) (taken d [] (idle o)) o refl refl (rw q refl)
+      go : (r : Radio) → d .air .radio ≡ r → (v o : Bool) → Does m d (byte 0) (does d [] (cond (free? r && v) (idle o) Nothing)) m
+      go Free q true o = frees m d (byte 0) (yields-free m d (byte 0) (λ w. refl) q) (does d [] (idle o)) o refl (rw q refl)
       go Free q false o = still
       go (Listening u) q v o = still
       go (OnAir u) q v o = still
       go Orphan q v o = still
       go Configuring q v o = still
 
-  go-plain : (kind t : ℕ) → Goes m d (byte 0) (atOnce kind t d) m
+  go-plain : (kind t : ℕ) → Does m d (byte 0) (atOnce kind t d) m
   unfolding atOnce
   go-plain kind t =
       either m d (eqb kind RX-START) (byte 0) _ _ (go-turned true t)
       (either m d (eqb kind RX-STOP) (byte 0) _ _ (go-turned false t)
-      (either m d (eqb kind GET-INFO) (byte 0) _ _ (rests m d (byte 0) (taken d (seen (okInfo sx1262 t) ∷ []) Nothing) (λ w. refl) refl refl)
-      (rests m d (byte 0) (taken d (seen (ok t) ∷ []) Nothing) (λ w. refl) refl refl)))
+      (either m d (eqb kind GET-INFO) (byte 0) _ _ (stays m d (byte 0) (does d (seen (okInfo sx1262 t) ∷ []) Nothing) (λ w. refl) refl refl)
+      (stays m d (byte 0) (does d (seen (ok t) ∷ []) Nothing) (λ w. refl) refl refl)))
 
   module _ (kind t : ℕ) (p : List ℕ) where
     abbrev objected : ℕ → Option ℕ
@@ -433,19 +445,19 @@ module _ (m : List ℕ) (d : Device) (s : Sound m (d .air)) (calm : stalled (d .
         go false a false b = go-plain kind t
 
     go-unless : (o : Option ℕ) → objected kind ≡ o → Rule (unless o kind t p m d)
-    go-unless (some code) e = rests m d (byte 0) (unless (some code) kind t p m d .done) (λ w. refl) refl refl
+    go-unless (some code) e = stays m d (byte 0) (unless (some code) kind t p m d .done) (λ w. refl) refl refl
     go-unless none e = go-command e
 
   go-received : (f : Received) → Rule (onReceived f m d)
   unfolding judged
-  go-received damaged = rests m d (byte 0) (onReceived damaged m d .done) (λ w. refl) refl refl
+  go-received damaged = stays m d (byte 0) (onReceived damaged m d .done) (λ w. refl) refl refl
   go-received (command kind t p) = go-unless kind t p (objected kind t p kind) refl
 
 -- ---- a byte
 
 module _ (run m : List ℕ) (d : Device) (s : Sound m (d .air)) where
   go-run : (calm : stalled (d .air) ≡ false) (n : ℕ) → Rule m d s calm (onRun n run m d)
-  go-run calm zero = rests m d (byte 0) (taken d [] Nothing) (λ w. refl) refl refl
+  go-run calm zero = stays m d (byte 0) (does d [] Nothing) (λ w. refl) refl refl
   go-run calm (suc n) = go (ltb encodedMax (suc n))
     where
       e : Device
@@ -455,17 +467,17 @@ module _ (run m : List ℕ) (d : Device) (s : Sound m (d .air)) where
       go true = go-received m e s calm damaged
       go false = go-received m e s calm (received (take (suc n) run))
 
-  abbrev Feed : ℕ → Fed → Type 0
-  Feed b x = Goes m d (byte b) (x .done) (x .commands)
+  abbrev Feed : ℕ → Fed Out → Type 0
+  Feed b x = Goes m d (byte b) (x .gives) (x .commands)
 
-  either-fed : (v : Bool) (b : ℕ) (x z : Fed) → Feed b x → (v ≡ false → Feed b z) → Feed b (cond v x z)
+  either-fed : (v : Bool) (b : ℕ) (x z : Fed Out) → Feed b x → (v ≡ false → Feed b z) → Feed b (cond v x z)
   either-fed true b x z f g = f
   either-fed false b x z f g = g refl
 
-  go-byte : (b : ℕ) → stalled (d .air) ≡ false → Feed b (onByte b run m d)
+  go-byte : (b : ℕ) → stalled (d .air) ≡ false → let x = onByte b run m d in Feed b (fed (taken (x .gives)) (x .run) (x .commands))
   unfolding onZero onJoin
   go-byte zero calm = go-run calm (d .link .run)
-  go-byte (suc n) calm = rests m d (byte (suc n)) (joined d (longer (d .link .run))) (λ w. refl) refl refl
+  go-byte (suc n) calm = stays m d (byte (suc n)) (joined d (longer (d .link .run))) (λ w. refl) refl refl
 
 -- ---- every call
 
@@ -481,21 +493,21 @@ module _ (y : Machine) (s : Sound (y .commands) (y .device .air)) (o : List ℕ)
 
   goes : (e : Event) → let x = runsOn e o y in
       (w : Option Named) → Uses (used (d .air)) w m → Went e (x .next .device .air) (x .answer .number) (x .answer .order) (x .next .commands) w
-  unfolding byteDone tickDone clearDone busyDone sentDone configuredDone faultDone packetDone requestDone disconnectDone
+  unfolding byteOut tickOut clearOut busyOut sentOut configuredOut faultOut packetOut requestOut disconnectOut
   goes (byte b) =
       either-fed (y .run) m d s (ltb room 283) b _ _ (refuses m d (byte b) 0)
       (λ q. either-fed (y .run) m d s (stalled (d .air)) b _ _ (refuses m d (byte b) 1) (go-byte (y .run) m d s b))
-  goes tick = in-room m d room tick (onTick d) (go-tick m d)
+  goes tick = in-room m d room tick (taken (onTick d)) (go-tick m d)
   goes clear = in-room m d room clear (onClear (d .air .radio) d) (go-clear m d s (d .air .radio) refl)
   goes busy = in-room m d room busy (onBusy (d .air .radio) m d) (go-busy m d s (d .air .radio))
   goes (sent airtime) = in-room m d room (sent airtime) (onSent airtime (d .air .radio) m d) (go-sent m d s airtime (d .air .radio))
   goes configured = in-room m d room configured (onConfigured (d .air .radio) m d) (go-configured m d s (d .air .radio))
-  goes fault = in-room m d room fault (onFault (d .air .radio) m d) (go-fault m d s (d .air .radio))
+  goes fault = in-room m d room fault (taken (onFault (d .air .radio) m d)) (go-fault m d s (d .air .radio))
   goes (packet p) =
       let v = d .inbox .receiving && free? (d .air .radio) in
-      in-room m d room (packet p) (onPacket v p (y .packets) d .done) (go-packet m d v p (y .packets))
-  goes request = in-room m d room request (onRequest (d .inbox .held) (y .packets) d .done) (go-request m d (d .inbox .held) (y .packets))
-  goes disconnect = in-room m d room disconnect (onDisconnect (d .link .session) d) (go-disconnect m d (d .link .session))
+      in-room m d room (packet p) (onPacket v p (y .packets) d .gives) (go-packet m d v p (y .packets))
+  goes request = in-room m d room request (taken (onRequest (d .inbox .held) (y .packets) d .gives)) (go-request m d (d .inbox .held) (y .packets))
+  goes disconnect = in-room m d room disconnect (taken (onDisconnect (d .link .session) d)) (go-disconnect m d (d .link .session))
 
 went : {y : Machine} {s : State} → Meets y s → (c : Call) (w : Option Named) → Uses (used (y .device .air)) w (y .commands)
     → let x = runs y c in Went (c .event) (x .next .device .air) (x .answer .number) (x .answer .order) (x .next .commands) w

@@ -12,7 +12,8 @@ use Rattle.scalar.specs.Bytes.{Each}
 use Rattle.scalar.proofs.Bytes.{each-right}
 use Rattle.device.specs.State.{Setting, Tx, State, held, tagsOf}
 use Rattle.device.specs.State as S
-use Rattle.device.specs.Messages.{Message, Frame, seen, cancelled, err, txDone, ERADIO, TRANSMITTED, CHANNEL-BUSY, CANCELLED}
+use Rattle.kind.specs.Kinds.{ERADIO, TRANSMITTED, CHANNEL-BUSY, CANCELLED}
+use Rattle.device.specs.Messages.{Message, Frame, seen, cancelled, err, txDone}
 use Rattle.device.specs.Events as E
 use Rattle.device.proofs.Back.{TagIn}
 use Rattle.device.proofs.Ranges.{AirIn}
@@ -25,7 +26,7 @@ use Rattle.slot.specs.Slots.{headAt}
 use Rattle.configured.specs.Configured.{inForce, onConfigured}
 use Rattle.queue.specs.Queue.{listens, begun, start, waitingTags, begin, next, afterTx}
 use Rattle.joint.specs.Seen.{orderIn}
-use Rattle.joint.proofs.Stands.{SetAt, RadioAs, as-free, as-listening, as-onAir, as-orphan, as-configuring, PendingAs, as-none, as-some, TxAt, Queue, AirAs, Stands, Agrees, quietly, refuses, empty-air, with-air, same-listens, tx-tag, tx-flags, tx-packet, set-tag, set-mode, set-order, set-ok}
+use Rattle.joint.proofs.Stands.{SetAt, RadioAs, as-free, as-listening, as-onAir, as-orphan, as-configuring, PendingAs, as-none, as-some, TxAt, Queue, AirAs, Stands, Agrees, quietly, Answered, takes, refuses, empty-air, with-air, same-listens, tx-tag, tx-flags, tx-packet, set-tag, set-mode, set-order, set-ok}
 
 -- ---- those that wait
 
@@ -69,7 +70,6 @@ module _ {d : Device} {run m p : List ℕ} {s : State} (h : Stands d run m p s) 
               ring = r;
               long = h .air .long;
             };
-        number = refl;
         said = append-nil (map seen ms);
         order = ap₂ S.transmit (tx-packet q) e;
       }
@@ -86,7 +86,6 @@ module _ {d : Device} {run m p : List ℕ} {s : State} (h : Stands d run m p s) 
       rw (e, n) (tags-wait m (d .air .first) ws (h .air .ring) (each-right TagIn (held (s .air .radio)) (tagsOf ws) (g .tags))) in
       record {
         next = with-air h (empty-air (d .air .first) (as-configuring q) (h .air .first) (h .air .long));
-        number = refl;
         said = rw (ts, map-append);
         order = set-order q;
       }
@@ -103,7 +102,6 @@ module _ {d : Device} {run m p : List ℕ} {s : State} (h : Stands d run m p s) 
       go false zero none [] as-none l r e t =
           record {
             next = with-air h (empty-air (d .air .first) as-free (h .air .first) (h .air .long));
-            number = refl;
             said = append-nil (map seen ms);
             order = rw (h .inbox .receiving) (idle-as m (s .inbox .receiving));
           }
@@ -133,26 +131,26 @@ module _ {d : Device} {run m p : List ℕ} {s : State} (h : Stands d run m p s) 
         long = h .air .long;
       }
 
-  pub on-clear : {r : Radio} {q : S.Radio} → RadioAs m r q → Agrees (onClear r d) run m p (E.onClear q s)
+  pub on-clear : {r : Radio} {q : S.Radio} → RadioAs m r q → Answered (onClear r d) run m p (E.onClear q s)
   on-clear as-free = refuses h 3
-  on-clear as-listening = quietly (with-air h (turns as-onAir))
+  on-clear as-listening = takes (quietly (with-air h (turns as-onAir)))
   on-clear as-onAir = refuses h 3
   on-clear as-orphan = refuses h 3
   on-clear (as-configuring x) = refuses h 3
 
   module _ (g : AirIn (s .air)) where
-    pub on-busy : {r : Radio} {q : S.Radio} → RadioAs m r q → Agrees (onBusy r m d) run m p (E.onBusy q s)
+    pub on-busy : {r : Radio} {q : S.Radio} → RadioAs m r q → Answered (onBusy r m d) run m p (E.onBusy q s)
     on-busy as-free = refuses h 3
-    on-busy (as-listening {t}) = goes-on h (txDone CHANNEL-BUSY 0 t ∷ []) g
+    on-busy (as-listening {t}) = takes (goes-on h (txDone CHANNEL-BUSY 0 t ∷ []) g)
     on-busy as-onAir = refuses h 3
     on-busy as-orphan = refuses h 3
     on-busy (as-configuring x) = refuses h 3
 
-    pub on-sent : (airtime : ℕ) {r : Radio} {q : S.Radio} → RadioAs m r q → Agrees (onSent airtime r m d) run m p (E.onSent airtime q s)
+    pub on-sent : (airtime : ℕ) {r : Radio} {q : S.Radio} → RadioAs m r q → Answered (onSent airtime r m d) run m p (E.onSent airtime q s)
     on-sent airtime as-free = refuses h 3
     on-sent airtime as-listening = refuses h 3
-    on-sent airtime (as-onAir {t}) = goes-on h (txDone TRANSMITTED airtime t ∷ []) g
-    on-sent airtime as-orphan = goes-on h [] g
+    on-sent airtime (as-onAir {t}) = takes (goes-on h (txDone TRANSMITTED airtime t ∷ []) g)
+    on-sent airtime as-orphan = takes (goes-on h [] g)
     on-sent airtime (as-configuring x) = refuses h 3
 
     abbrev complains : List Message
@@ -183,25 +181,23 @@ module _ {d : Device} {run m p : List ℕ} {s : State} (h : Stands d run m p s) 
     on-fault (as-configuring x) =
         record {
           next = record { link = h .link; mode = refl; air = turns as-free; inbox = h .inbox };
-          number = refl;
           said = ap₂ noted (h .link .session) (set-tag x);
           order = refl;
         }
 
-  pub on-configured : {r : Radio} {q : S.Radio} → RadioAs m r q → Agrees (onConfigured r m d) run m p (E.onConfigured q s)
+  pub on-configured : {r : Radio} {q : S.Radio} → RadioAs m r q → Answered (onConfigured r m d) run m p (E.onConfigured q s)
   on-configured as-free = refuses h 3
   on-configured as-listening = refuses h 3
   on-configured as-onAir = refuses h 3
   on-configured as-orphan = refuses h 3
   on-configured (as-configuring {c} x) =
-      subst (λ (v : Bool). Agrees (inForce v m d) run m p (E.inForce (s .link .session) c s)) (sym (h .link .session)) (go (s .link .session))
+      takes (subst (λ (v : Bool). Agrees (inForce v m d) run m p (E.inForce (s .link .session) c s)) (sym (h .link .session)) (go (s .link .session)))
     where
       go : (v : Bool) → Agrees (inForce v m d) run m p (E.inForce v c s)
       go true =
           record {
             next = record { link = h .link; mode = set-mode x; air = turns as-free; inbox = h .inbox };
-            number = refl;
             said = ap (λ (f : Frame). f ∷ []) (set-ok x);
             order = refl;
           }
-      go false = record { next = with-air h (turns as-free); number = refl; said = refl; order = refl }
+      go false = record { next = with-air h (turns as-free); said = refl; order = refl }

@@ -3,39 +3,39 @@
 -- Assumes nothing.
 use mathlib.Core.Path.{_≡_, refl}
 use mathlib.Core.List.{List}
-use Prim.Native.Nat.{ℕ, _+_}
+use Prim.Native.Nat.{ℕ}
 use native.Mathlib.Nat.{zero-add}
 use lib.ListN.{length, drop}
 use lib.Seq.{drop-append-seam}
 use Rattle.buffer.specs.Lay.{lay}
 use Rattle.device.specs.State.{Event, byte, tick, clear, busy, sent, configured, fault, packet, request, disconnect}
 use Rattle.wire.specs.Wire.{sends}
-use Rattle.control.specs.Control.{Done}
-use Rattle.outcome.specs.Outcomes.{busyDone, sentDone, faultDone}
-use Rattle.inbox.specs.Packets.{requestDone}
-use Rattle.configured.specs.Configured.{configuredDone}
-use Rattle.link.specs.Link.{byteDone}
+use Rattle.control.specs.Control.{Out}
+use Rattle.outcome.specs.Outcomes.{busyOut, sentOut, faultOut}
+use Rattle.inbox.specs.Packets.{requestOut}
+use Rattle.configured.specs.Configured.{configuredOut}
+use Rattle.link.specs.Link.{byteOut}
 use Rattle.machine.specs.Machine.{Machine, Call, speaks, runsOn, runs}
 use Rattle.joint.specs.Demands.{RestStays}
 
-past-laid : (bs o : List ℕ) → drop (0 + length bs) (lay 0 bs o) ≡ drop (0 + length bs) o
+past-laid : (bs o : List ℕ) → drop (length bs) (lay 0 bs o) ≡ drop (length bs) o
 unfolding lay
 past-laid bs o = rw zero-add (drop-append-seam bs (drop (length bs) o))
 
 -- an event that writes
-past-said : (x : Done) (o run m p : List ℕ) → let z = speaks x o run m p in drop (z .answer .written) (z .out) ≡ drop (z .answer .written) o
+past-said : (x : Out) (o run m p : List ℕ) → let z = speaks x o run m p in drop (z .answer .written) (z .out) ≡ drop (z .answer .written) o
 past-said x o run m p = past-laid (sends (x .said)) o
 
 rest : (e : Event) (o : List ℕ) (y : Machine) → let x = runsOn e o y in drop (x .answer .written) (x .out) ≡ drop (x .answer .written) o
-rest (byte b) o y = let x = byteDone (length o) b (y .run) (y .commands) (y .device) in past-said (x .done) o (x .run) (x .commands) (y .packets)
+rest (byte b) o y = let x = byteOut (length o) b (y .run) (y .commands) (y .device) in past-said (x .gives) o (x .run) (x .commands) (y .packets)
 rest tick o y = refl
 rest clear o y = refl
-rest busy o y = past-said (busyDone (length o) (y .commands) (y .device)) o (y .run) (y .commands) (y .packets)
-rest (sent airtime) o y = past-said (sentDone (length o) airtime (y .commands) (y .device)) o (y .run) (y .commands) (y .packets)
-rest configured o y = past-said (configuredDone (length o) (y .commands) (y .device)) o (y .run) (y .commands) (y .packets)
-rest fault o y = past-said (faultDone (length o) (y .commands) (y .device)) o (y .run) (y .commands) (y .packets)
+rest busy o y = past-said (busyOut (length o) (y .commands) (y .device)) o (y .run) (y .commands) (y .packets)
+rest (sent airtime) o y = past-said (sentOut airtime (length o) (y .commands) (y .device)) o (y .run) (y .commands) (y .packets)
+rest configured o y = past-said (configuredOut (length o) (y .commands) (y .device)) o (y .run) (y .commands) (y .packets)
+rest fault o y = past-said (faultOut (length o) (y .commands) (y .device)) o (y .run) (y .commands) (y .packets)
 rest (packet p) o y = refl
-rest request o y = let x = requestDone (length o) (y .packets) (y .device) in past-said (x .done) o (y .run) (y .commands) (x .packets)
+rest request o y = let x = requestOut (length o) (y .packets) (y .device) in past-said (x .gives) o (y .run) (y .commands) (x .packets)
 rest disconnect o y = refl
 
 pub rest-stays : (y : Machine) (c : Call) → RestStays y c

@@ -25,7 +25,6 @@ use Rattle.device.specs.State as S
 use Rattle.device.specs.Messages.{seen}
 use Rattle.device.specs.Messages as Msg
 use Rattle.device.specs.Frames as F
-use Rattle.device.specs.Events.{Out}
 use Rattle.device.specs.Events as E
 use Rattle.control.specs.declared.Mode.{Mode}
 use Rattle.control.specs.declared.Mode.the-variants.{Unconfigured, Lora, Fsk}
@@ -36,7 +35,7 @@ use Rattle.control.specs.declared.Air.{Air}
 use Rattle.control.specs.declared.Inbox.{Inbox}
 use Rattle.control.specs.declared.Device.{Device}
 use Rattle.control.specs.declared.Order.the-variants.{Nothing, Configure}
-use Rattle.control.specs.Control.{link, air, inbox, withLink, withAir, withInbox, unconfigured, Done, taken, refused}
+use Rattle.control.specs.Control.{link, air, inbox, withLink, withAir, withInbox, unconfigured, Done, does, Out, taken, refused}
 use Rattle.slot.specs.Slots.{slotSize, setting, slotBytes, lenAt, tagAt, headAt, payloadAt}
 use Rattle.queue.specs.Queue.{listens, ldroAt}
 use Rattle.inbox.specs.Packets as P
@@ -106,7 +105,7 @@ pub record AirAs (a : Air) (m : List ℕ) (b : S.Air) : Type 0 where
   pub long : length m ≡ 4403
 
 abbrev pub Packets : List ℕ → ℕ → List Packet → Type 0
-Packets m k ps = Ring 276 64 P.slotBytes m k ps
+Packets m k ps = Ring 276 64 P.heldBytes m k ps
 
 pub record InboxAs (i : Inbox) (m : List ℕ) (j : S.Inbox) : Type 0 where
   pub receiving : i .receiving ≡ j .receiving
@@ -125,18 +124,27 @@ pub record Stands (d : Device) (run m p : List ℕ) (s : State) : Type 0 where
   pub air : AirAs (d .air) m (s .air)
   pub inbox : InboxAs (d .inbox) p (s .inbox)
 
--- what an event gives in code, with the memories after it, is what it gives in the definition
-pub record Agrees (x : Done) (run m p : List ℕ) (o : Out) : Type 0 where
+-- what an event does in code that is taken, with the memories after it, is what it does in the definition
+pub record Agrees (x : Done) (run m p : List ℕ) (o : E.Done) : Type 0 where
+  pub next : Stands (x .next) run m p (o .next)
+  pub said : x .said ≡ map seen (o .written)
+  pub order : orderIn m (x .order) ≡ o .order
+
+-- nothing is said or ordered
+pub quietly : {d : Device} {run m p : List ℕ} {s : State} → Stands d run m p s → Agrees (does d [] Nothing) run m p (E.does s [] S.nothing)
+quietly h = record { next = h; said = refl; order = refl }
+
+-- any event: the number too
+pub record Answered (x : Out) (run m p : List ℕ) (o : E.Out) : Type 0 where
   pub next : Stands (x .next) run m p (o .next)
   pub number : x .number ≡ o .number
   pub said : x .said ≡ map seen (o .written)
   pub order : orderIn m (x .order) ≡ o .order
 
--- nothing is said or ordered, or it is a refusal
-pub quietly : {d : Device} {run m p : List ℕ} {s : State} → Stands d run m p s → Agrees (taken d [] Nothing) run m p (E.taken s [] S.nothing)
-quietly h = record { next = h; number = refl; said = refl; order = refl }
+pub takes : {x : Done} {run m p : List ℕ} {o : E.Done} → Agrees x run m p o → Answered (taken x) run m p (E.taken o)
+takes a = record { next = a .next; number = refl; said = a .said; order = a .order }
 
-pub refuses : {d : Device} {run m p : List ℕ} {s : State} → Stands d run m p s → (n : ℕ) → Agrees (refused n d) run m p (E.refused n s)
+pub refuses : {d : Device} {run m p : List ℕ} {s : State} → Stands d run m p s → (n : ℕ) → Answered (refused n d) run m p (E.refused n s)
 refuses h n = record { next = h; number = refl; said = refl; order = refl }
 
 -- ---- parts with nothing in them, and a state with one part new

@@ -16,11 +16,11 @@ use Rattle.slot.specs.Slots.{kept}
 use Rattle.wire.specs.Wire.{bytesOf}
 use Rattle.wire.specs.Wire as W
 use Rattle.queue.specs.Queue.{start, ldroAt, begin}
-use Rattle.session.specs.Session.{endSession, disconnectDone}
-use Rattle.configured.specs.Configured.{configuredDone}
+use Rattle.session.specs.Session.{endSession, disconnectOut}
+use Rattle.configured.specs.Configured.{configuredOut}
 use Rattle.intake.specs.Intake.{onTx, onSet}
 use Rattle.dispatch.specs.Commands.{judged}
-use Rattle.link.specs.Link.{onJoin, onZero, byteDone}
+use Rattle.link.specs.Link.{onJoin, onZero, byteOut}
 use Rattle.machine.specs.Machine.{Call, runs}
 use Rattle.joint.specs.Joined.{zeros}
 use Rattle.joint.specs.Named.{Named, Orders, Past, onward, after, past, codeOrders}
@@ -47,8 +47,8 @@ Stays is k n bs = at k n (past code (calls is)) ≡ record { needed = some (reco
 -- what the code's definitions compute with, beside those of crate device
 unfoldable pub runsComputes : Unit {0}
 unfolding
-    computes within kept bytesOf W.sends start ldroAt begin endSession disconnectDone configuredDone
-    onTx onSet judged onJoin onZero byteDone runs onward after past
+    computes within kept bytesOf W.sends start ldroAt begin endSession disconnectOut configuredOut
+    onTx onSet judged onJoin onZero byteOut runs onward after past
 runsComputes = tt
 
 -- the packet of an orphan: slot 0, after length, tag and flags

@@ -13,7 +13,8 @@ use Rattle.numbers.specs.Numbers.{TAKEN}
 use Rattle.buffer.specs.Lay.{lay}
 use Rattle.cobs.specs.Answers.{encodedMax}
 use Rattle.device.specs.State.{held, byte}
-use Rattle.device.specs.Messages.{wire, EFRAME}
+use Rattle.kind.specs.Kinds.{EFRAME}
+use Rattle.device.specs.Messages.{wire}
 use Rattle.device.specs.Frames.{Received, damaged}
 use Rattle.device.specs.Reading.{brings}
 use Rattle.device.specs.Due.{cause, errDue}

@@ -1,4 +1,5 @@
-// The ten message types, and which tags each may have: P 4; 01 "Numbers that come back", 8 and 9.
+// The numbers of messages: the ten types, and which tags each may have (P 4; 01 "Numbers that come
+// back", 8 and 9), error codes, results, and the longest packet.
 ghost use mathlib.Core.Path.{_≡_};
 ghost use Rattle.kind.specs.Kinds.{isCommand, isAnswer, tagWrong};
 
@@ -23,6 +24,38 @@ pub const ERR: u8 = 0x81;
 pub const RX: u8 = 0xC0;
 
 pub const TX_DONE: u8 = 0xC1;
+
+// The code of an ERR: P 7.
+pub const EPARAM: u16 = 0x0001;
+
+pub const ELENGTH: u16 = 0x0002;
+
+pub const ENOTCONFIGURED: u16 = 0x0003;
+
+pub const EMODULATION: u16 = 0x0004;
+
+pub const EUNKNOWN_CMD: u16 = 0x0005;
+
+pub const EBUSY: u16 = 0x0006;
+
+pub const ERADIO: u16 = 0x0101;
+
+pub const EFRAME: u16 = 0x0102;
+
+// The result of a TX_DONE: P 6.10.
+pub const TRANSMITTED: u8 = 0;
+
+pub const CHANNEL_BUSY: u8 = 1;
+
+pub const CANCELLED: u8 = 2;
+
+// The result and the owner in an OK to SET_CONFIG: P 6.3, for a device that has one client.
+pub const APPLIED: u8 = 0;
+
+pub const MINE: u8 = 1;
+
+// The longest packet of a TX or an RX: P 6.4 and 6.9.
+pub const PACKET_MAX: usize = 255;
 
 // The commands by their names: an OK is read as the answer to one of them.
 pub enum Name {

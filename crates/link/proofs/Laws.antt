@@ -19,10 +19,10 @@ use Rattle.device.specs.Frames.{damaged, command, received}
 use Rattle.device.specs.Events.{roomMin}
 use Rattle.control.specs.declared.Device.{Device}
 use Rattle.control.specs.declared.Order.the-variants.{Nothing}
-use Rattle.control.specs.Control.{link, withLink, stalled, Done, taken, refused}
-use Rattle.intake.specs.Intake.{Ruled, ruled}
+use Rattle.control.specs.Control.{link, withLink, stalled, Done, does, Out, taken, refused}
+use Rattle.intake.specs.Intake.{ruled}
 use Rattle.dispatch.specs.Commands.{onReceived}
-use Rattle.link.specs.Link.{fed, longer, stored, joined, onJoin, onRun, onZero, unlessRefused, zeroDone, joinDone, byteDone}
+use Rattle.link.specs.Link.{Fed, fed, longer, stored, joined, onJoin, onRun, onZero, unlessRefused, joinOut, byteOut}
 
 -- ---- a run that was opened
 
@@ -46,7 +46,7 @@ module _ (run m : List ℕ) (d : Device) where
   abbrev heard : Device
   heard = withLink d (link true 0 0)
 
-  pub no-run : d .link .run ≡ 0 → onZero run m d ≡ ruled (taken d [] Nothing) m
+  pub no-run : d .link .run ≡ 0 → onZero run m d ≡ ruled (does d [] Nothing) m
   unfolding onZero
   no-run e = rw e
 
@@ -69,66 +69,48 @@ module _ (run m : List ℕ) (d : Device) where
 -- ---- a byte
 
 -- the three ways out of the tests before it
-module _ {A : Type 0} (room : ℕ) (d : Device) (stop : Done → A) (x : A) where
-  pub no-room : room < roomMin → unlessRefused room d stop x ≡ stop (refused ROOM d)
+module _ (room : ℕ) (run m : List ℕ) (d : Device) (x : Fed Done) where
+  pub no-room : room < roomMin → unlessRefused room run m d x ≡ fed (refused ROOM d) run m
   no-room h = simp (lt-ltb room roomMin h)
 
   module _ (enough : roomMin ≤ room) where
-    pub stalls : stalled (d .air) ≡ true → unlessRefused room d stop x ≡ stop (refused STALL d)
+    pub stalls : stalled (d .air) ≡ true → unlessRefused room run m d x ≡ fed (refused STALL d) run m
     stalls s = simp (le-ltb room roomMin enough, s)
 
-    pub enters : stalled (d .air) ≡ false → unlessRefused room d stop x ≡ x
+    pub enters : stalled (d .air) ≡ false → unlessRefused room run m d x ≡ fed (taken (x .gives)) (x .run) (x .commands)
     enters s = simp (le-ltb room roomMin enough, s)
 
--- a byte is a zero, or joins
+-- a byte that isn't zero joins
 module _ (room : ℕ) (run m : List ℕ) (d : Device) where
-  pub zero-byte : byteDone room 0 run m d ≡ fed (zeroDone room run m d .done) run (zeroDone room run m d .commands)
-  unfolding byteDone zeroDone
-  zero-byte = go (ltb room roomMin) (stalled (d .air)) (onZero run m d)
+  joins : (b : ℕ) → byteOut room (suc b) run m d ≡ fed (joinOut room (suc b) run d .gives) (joinOut room (suc b) run d .run) m
+  unfolding byteOut joinOut onJoin
+  joins b = go (ltb room roomMin) (stalled (d .air)) (taken (joined d (longer (d .link .run)))) (stored (d .link .run) (suc b) run)
     where
-      go : (v w : Bool) (x : Ruled)
-          → cond v (fed (refused ROOM d) run m) (cond w (fed (refused STALL d) run m) (fed (x .done) run (x .commands)))
-          ≡ fed (cond v (ruled (refused ROOM d) m) (cond w (ruled (refused STALL d) m) x) .done) run (cond v (ruled (refused ROOM d) m) (cond w (ruled (refused STALL d) m) x) .commands)
-      go true w x = refl
-      go false true x = refl
-      go false false x = refl
-
-  joins : (b : ℕ) → byteDone room (suc b) run m d ≡ fed (joinDone room (suc b) run d .done) (joinDone room (suc b) run d .run) m
-  unfolding byteDone joinDone onJoin
-  joins b = go (ltb room roomMin) (stalled (d .air)) (joined d (longer (d .link .run))) (stored (d .link .run) (suc b) run)
-    where
-      go : (v w : Bool) (x : Done) (run' : List ℕ)
+      go : (v w : Bool) (x : Out) (run' : List ℕ)
           → cond v (fed (refused ROOM d) run m) (cond w (fed (refused STALL d) run m) (fed x run' m))
-          ≡ fed (cond v (fed (refused ROOM d) run []) (cond w (fed (refused STALL d) run []) (fed x run' [])) .done) (cond v (fed (refused ROOM d) run []) (cond w (fed (refused STALL d) run []) (fed x run' [])) .run) m
+          ≡ fed (cond v (fed (refused ROOM d) run []) (cond w (fed (refused STALL d) run []) (fed x run' [])) .gives)
+          (cond v (fed (refused ROOM d) run []) (cond w (fed (refused STALL d) run []) (fed x run' [])) .run) m
       go true w x run' = refl
       go false true x run' = refl
       go false false x run' = refl
 
-  pub join-byte : (b : ℕ) → (b ≡ 0 → ⊥) → byteDone room b run m d ≡ fed (joinDone room b run d .done) (joinDone room b run d .run) m
+  pub join-byte : (b : ℕ) → (b ≡ 0 → ⊥) → byteOut room b run m d ≡ fed (joinOut room b run d .gives) (joinOut room b run d .run) m
   join-byte zero z = absurd (z refl)
   join-byte (suc b) z = joins b
 
--- one that joins, test by test
-module _ (room b : ℕ) (run : List ℕ) (d : Device) where
-  pub join-no-room : room < roomMin → joinDone room b run d ≡ fed (refused ROOM d) run []
-  unfolding joinDone
-  join-no-room h = no-room room d (λ x. fed x run []) (onJoin b run [] d) h
+pub join-enters : (room b : ℕ) (run : List ℕ) (d : Device) → roomMin ≤ room → stalled (d .air) ≡ false
+    → joinOut room b run d ≡ fed (taken (joined d (longer (d .link .run)))) (stored (d .link .run) b run) []
+unfolding joinOut onJoin
+join-enters room b run d h s = enters room run [] d (fed (joined d (longer (d .link .run))) (stored (d .link .run) b run) []) h s
 
-  pub join-stalls : roomMin ≤ room → stalled (d .air) ≡ true → joinDone room b run d ≡ fed (refused STALL d) run []
-  unfolding joinDone
-  join-stalls h s = stalls room d (λ x. fed x run []) (onJoin b run [] d) h s
-
-  pub join-enters : roomMin ≤ room → stalled (d .air) ≡ false → joinDone room b run d ≡ onJoin b run [] d
-  unfolding joinDone
-  join-enters h s = enters room d (λ x. fed x run []) (onJoin b run [] d) h s
-
--- it says nothing
-pub join-silent : (room b : ℕ) (run : List ℕ) (d : Device) → joinDone room b run d .done .said ≡ []
-unfolding joinDone onJoin
+-- and says nothing
+pub join-silent : (room b : ℕ) (run : List ℕ) (d : Device) → joinOut room b run d .gives .said ≡ []
+unfolding joinOut onJoin
 join-silent room b run d = go (ltb room roomMin) (stalled (d .air)) (stored (d .link .run) b run)
   where
     go : (v w : Bool) (run' : List ℕ)
-        → cond v (fed (refused ROOM d) run []) (cond w (fed (refused STALL d) run []) (fed (joined d (longer (d .link .run))) run' [])) .done .said ≡ []
+        → cond v (fed (refused ROOM d) run []) (cond w (fed (refused STALL d) run [])
+        (fed (taken (joined d (longer (d .link .run)))) run' [])) .gives .said ≡ []
     go true w run' = refl
     go false true run' = refl
     go false false run' = refl

@@ -1,22 +1,25 @@
 // One of the ten events: byte. 01 "A run of bytes becomes a frame".
 ghost use mathlib.Core.Path.{_≡_};
-ghost use Prim.Native.Nat.{_≤_};
+ghost use Prim.Native.Nat.{_≤_, _<_};
 ghost use mathlib.Core.List.{[]};
 ghost use lib.ListN.{length, take, replicate};
 ghost use Rattle.cobs.specs.Answers.{encodedMax};
 ghost use Rattle.device.specs.Frames as F;
-ghost use Rattle.control.specs.Control.{answerOf, Gives};
+ghost use Rattle.device.specs.Events.{roomMin};
+ghost use Rattle.control.specs.Control.{Gives, Tells};
 ghost use Rattle.intake.specs.Intake.{Rules};
 ghost use Rattle.dispatch.specs.Commands.{onReceived};
-ghost use Rattle.link.specs.Link.{Feeds, byteDone, zeroDone, joinDone, longer, stored, onZero};
+ghost use Rattle.link.specs.Link.{Feeds, byteOut, joinOut, longer, stored, onZero};
 use cobs::ENCODED_MAX;
 use control::Answer;
 use control::Device;
 use control::Link;
 use control::Order;
 use control::ROOM_MIN;
+use control::Taken;
 use frame::Opened;
 use frame::PAYLOAD;
+use kind::EFRAME;
 use numbers::ROOM;
 use numbers::STALL;
 use slot::COMMANDS;
@@ -24,9 +27,7 @@ use slot::COMMANDS;
 // The longest run that can be a frame.
 pub const RUN_MAX: usize = ENCODED_MAX;
 // The length of a run that is longer.
-const TOO_LONG: u16 = 283;
-// P 7.
-const EFRAME: u16 = 0x0102;
+const TOO_LONG: u16 = RUN_MAX as u16 + 1;
 
 // The memory of the run at power-up.
 pub fn empty_run() -> [u8; RUN_MAX]
@@ -43,7 +44,8 @@ pub fn byte(
     commands: &mut [u8; COMMANDS],
     out: &mut [u8],
 ) -> Answer
-    ensures { λ r. ⌜ Feeds (byteDone (length (now (out .entry))) b (now (run .entry)) (now (commands .entry)) d) (now (out .entry)) r (now (out .exit)) (now (run .exit)) (now (commands .exit)) ⌝ }
+    ensures { λ r. ⌜ Feeds (byteOut (length (now (out .entry))) b (now (run .entry)) (now (commands .entry)) d)
+        (now (out .entry)) r (now (out .exit)) (now (run .exit)) (now (commands .exit)) ⌝ }
 {
     if b == 0 {
         return zero(d, run, commands, out);
@@ -53,7 +55,8 @@ pub fn byte(
 
 // A byte that is zero: it ends the run.
 pub fn zero(d: Device, run: &[u8; RUN_MAX], commands: &mut [u8; COMMANDS], out: &mut [u8]) -> Answer
-    ensures { λ r. ⌜ Rules (zeroDone (length (now (out .entry))) (now (run .entry)) (now (commands .entry)) d) (now (out .entry)) r (now (out .exit)) (now (commands .exit)) ⌝ }
+    ensures { λ r. ⌜ Feeds (byteOut (length (now (out .entry))) 0 (now (run .entry)) (now (commands .entry)) d)
+        (now (out .entry)) r (now (out .exit)) (now (run .entry)) (now (commands .exit)) ⌝ }
 {
     if out.len() < ROOM_MIN {
         return control::refuse(d, ROOM);
@@ -62,14 +65,15 @@ pub fn zero(d: Device, run: &[u8; RUN_MAX], commands: &mut [u8; COMMANDS], out: 
     if control::is_stalled(air) {
         return control::refuse(d, STALL);
     }
-    end_run(d, run, commands, out)
+    control::take(end_run(d, run, commands, out))
 }
 
-// A byte that is not: it joins the run. It writes nothing, and asks only for the room that an event's
-// output must have.
+// A byte that is not: it joins the run, and nothing is written. A helper of the crates above: they
+// show that it is not zero.
 pub fn join(d: Device, b: u8, run: &mut [u8; RUN_MAX], room: usize) -> Answer
-    ensures { λ r. ⌜ r ≡ answerOf 0 (joinDone room b (now (run .entry)) d .done) ⌝ }
-    ensures { λ _. ⌜ now (run .exit) ≡ joinDone room b (now (run .entry)) d .run ⌝ }
+    requires { ⌜ 0 < b ⌝ }
+    ensures { λ r. ⌜ Tells (joinOut room b (now (run .entry)) d .gives) r ⌝ }
+    ensures { λ _. ⌜ now (run .exit) ≡ joinOut room b (now (run .entry)) d .run ⌝ }
 {
     if room < ROOM_MIN {
         return control::refuse(d, ROOM);
@@ -102,14 +106,14 @@ fn keep(at: u16, b: u8, run: &mut [u8; RUN_MAX]) -> u16
 }
 
 // A zero ends the run.
-fn end_run(d: Device, run: &[u8; RUN_MAX], commands: &mut [u8; COMMANDS], out: &mut [u8]) -> Answer
-    requires { ⌜ 283 ≤ length (now out) ⌝ }
+fn end_run(d: Device, run: &[u8; RUN_MAX], commands: &mut [u8; COMMANDS], out: &mut [u8]) -> Taken
+    requires { ⌜ roomMin ≤ length (now out) ⌝ }
     ensures { λ r. ⌜ Rules (onZero (now (run .entry)) (now (commands .entry)) d) (now (out .entry)) r (now (out .exit)) (now (commands .exit)) ⌝ }
 {
     let was = d.link;
     let n = was.run as usize;
     if n == 0 {
-        return control::accept(d, 0, Order::Nothing);
+        return control::done(d, 0, Order::Nothing);
     }
     let next = Link {
         session: true,
@@ -124,9 +128,9 @@ fn end_run(d: Device, run: &[u8; RUN_MAX], commands: &mut [u8; COMMANDS], out: &
 }
 
 // The run is the first n bytes of run.
-fn receive(d: Device, run: &[u8], n: usize, commands: &mut [u8; COMMANDS], out: &mut [u8]) -> Answer
+fn receive(d: Device, run: &[u8], n: usize, commands: &mut [u8; COMMANDS], out: &mut [u8]) -> Taken
     requires { ⌜ n ≤ length (now run) ⌝ }
-    requires { ⌜ 283 ≤ length (now out) ⌝ }
+    requires { ⌜ roomMin ≤ length (now out) ⌝ }
     ensures { λ r. ⌜ Rules (onReceived (F.received (take n (now (run .entry)))) (now (commands .entry)) d) (now (out .entry)) r (now (out .exit)) (now (commands .exit)) ⌝ }
 {
     let mut memory = [0u8; ENCODED_MAX];
@@ -141,10 +145,10 @@ fn receive(d: Device, run: &[u8], n: usize, commands: &mut [u8; COMMANDS], out: 
 }
 
 // A run that is no frame.
-fn damaged(d: Device, out: &mut [u8]) -> Answer
-    requires { ⌜ 283 ≤ length (now out) ⌝ }
+fn damaged(d: Device, out: &mut [u8]) -> Taken
+    requires { ⌜ roomMin ≤ length (now out) ⌝ }
     ensures { λ r. ⌜ Gives (onReceived F.damaged [] d .done) (now (out .entry)) 0 r (now (out .exit)) ⌝ }
 {
     let w = wire::say_err(EFRAME, 0, out, 0);
-    control::accept(d, w, Order::Nothing)
+    control::done(d, w, Order::Nothing)
 }

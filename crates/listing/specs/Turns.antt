@@ -15,14 +15,14 @@ abbrev pub output : ℕ
 output = 262144
 
 -- above this the output has no room for another piece
-abbrev pub full : ℕ
-full = output - lineMax * pieceMax
+abbrev pub filledMax : ℕ
+filledMax = output - lineMax * pieceMax
 
 -- so many bytes are listed at most
-abbrev pub most : ℕ
-most = 2 ^ 62
+abbrev pub listedMax : ℕ
+listedMax = 2 ^ 62
 
 -- a turn that is not the last took some bytes, and left room for another piece
 abbrev pub Goes : Stream → Turn → Type 0
-Goes s (T.More u) = (s .at + s .len < u .at + u .len) × (u .at + u .len ≤ s .at + s .len + pieceMax) × (u .filled ≤ full)
+Goes s (T.More u) = (s .at + s .len < u .at + u .len) × (u .at + u .len ≤ s .at + s .len + pieceMax) × (u .filled ≤ filledMax)
 Goes s T.Done = Unit {0}

@@ -4,9 +4,9 @@ ghost use mathlib.Core.Path.{_≡_};
 ghost use Prim.Native.Nat.{_+_, _≤_, _<_};
 ghost use lib.ListN.{length};
 ghost use Rattle.cobs.specs.Answers.{encodedMax};
-ghost use Rattle.listing.specs.Turns.{output, full, most, Goes};
-use capture::RUN_MAX;
+ghost use Rattle.listing.specs.Turns.{output, filledMax, listedMax, Goes};
 use capture::Stream;
+use cobs::ENCODED_MAX;
 use libc::STDERR_FILENO;
 use libc::STDIN_FILENO;
 use libc::STDOUT_FILENO;
@@ -17,9 +17,9 @@ const PIECE: usize = 4096;
 // The output: room for the lines of one piece, whatever it holds, and for some more.
 const OUTPUT: usize = 262144;
 // Above this it has no room for another piece, and is written.
-const FULL: usize = OUTPUT - LINE_MAX * PIECE;
+const FILLED_MAX: usize = OUTPUT - LINE_MAX * PIECE;
 // So many bytes are listed at most. No capture has as many: a proved loop has to end.
-const MOST: u64 = 1 << 62;
+const LISTED_MAX: u64 = 1 << 62;
 
 // What one turn of the loop comes to.
 enum Turn {
@@ -49,8 +49,8 @@ fn flush(out: &[u8], filled: usize) -> bool
 
 // Reads a piece and lists it. The output is written when it is full, and at the end.
 fn list_piece(s: Stream, run: &mut [u8], out: &mut [u8]) -> Turn
-    requires { ⌜ s .at + s .len < most ⌝ }
-    requires { ⌜ s .filled ≤ full ⌝ }
+    requires { ⌜ s .at + s .len < listedMax ⌝ }
+    requires { ⌜ s .filled ≤ filledMax ⌝ }
     requires { ⌜ encodedMax ≤ length (now run) ⌝ }
     requires { ⌜ output ≡ length (now out) ⌝ }
     ensures { λ r. ⌜ Goes s r ⌝ }
@@ -67,7 +67,7 @@ fn list_piece(s: Stream, run: &mut [u8], out: &mut [u8]) -> Turn
     }
     let t = capture::feed(s, &piece[..n], run, out);
     let filled = t.filled;
-    if filled <= FULL {
+    if filled <= FILLED_MAX {
         return Turn::More(t);
     }
     if flush(out, filled) {
@@ -81,10 +81,10 @@ fn list_piece(s: Stream, run: &mut [u8], out: &mut [u8]) -> Turn
 }
 
 fn main() {
-    let mut run = [0u8; RUN_MAX];
+    let mut run = [0u8; ENCODED_MAX];
     let mut out = output();
     let mut s = capture::start(&mut out);
-    while s.at + s.len < MOST {
+    while s.at + s.len < LISTED_MAX {
         let t = list_piece(s, &mut run, &mut out);
         let Turn::More(u) = t else {
             return;

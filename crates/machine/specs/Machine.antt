@@ -1,7 +1,6 @@
 -- The device in code: its state and its three memories, and what a call of each event does with them, by the definitions that the contracts of the events cite.
 -- Assumes nothing.
 use Prim.Native.Nat.{ℕ}
-use mathlib.Core.Path.{_≡_}
 use mathlib.Core.List.{List}
 use lib.ListN.{length}
 use Rattle.buffer.specs.Lay.{lay}
@@ -9,12 +8,12 @@ use Rattle.device.specs.State as S
 use Rattle.wire.specs.Wire.{sends}
 use Rattle.control.specs.declared.Device.{Device}
 use Rattle.control.specs.declared.Answer.{Answer}
-use Rattle.control.specs.Control.{Done, answerOf}
-use Rattle.outcome.specs.Outcomes.{clearDone, busyDone, sentDone, faultDone}
-use Rattle.inbox.specs.Packets.{packetOf, packetDone, requestDone}
-use Rattle.session.specs.Session.{tickDone, disconnectDone}
-use Rattle.configured.specs.Configured.{configuredDone}
-use Rattle.link.specs.Link.{byteDone}
+use Rattle.control.specs.Control.{Out, answerOf, answerNumbers}
+use Rattle.outcome.specs.Outcomes.{clearOut, busyOut, sentOut, faultOut}
+use Rattle.inbox.specs.Packets.{packetOf, packetOut, requestOut}
+use Rattle.session.specs.Session.{tickOut, disconnectOut}
+use Rattle.configured.specs.Configured.{configuredOut}
+use Rattle.link.specs.Link.{byteOut}
 use Rattle.machine.specs.declared.Event.{Event}
 use Rattle.machine.specs.declared.Event.the-variants.{Byte, Tick, Clear, Busy, Sent, Configured, Fault, Packet, Request, Disconnect}
 
@@ -53,39 +52,52 @@ pub record Ran : Type 0 where
   pub out : List ℕ
 
 -- an event that writes to the output
-abbrev pub speaks : Done → List ℕ → List ℕ → List ℕ → List ℕ → Ran
-speaks x o run m p = record { next = machine (x .next) run m p; answer = answerOf 0 x; out = lay 0 (sends (x .said)) o }
+abbrev pub speaks : Out → List ℕ → List ℕ → List ℕ → List ℕ → Ran
+speaks x o run m p = record { next = machine (x .next) run m p; answer = answerOf x; out = lay 0 (sends (x .said)) o }
 
 -- an event that is lent none
-abbrev pub keepsStill : Done → List ℕ → List ℕ → List ℕ → List ℕ → Ran
-keepsStill x o run m p = record { next = machine (x .next) run m p; answer = answerOf 0 x; out = o }
+abbrev pub keepsStill : Out → List ℕ → List ℕ → List ℕ → List ℕ → Ran
+keepsStill x o run m p = record { next = machine (x .next) run m p; answer = answerOf x; out = o }
 
 -- the ten events
 abbrev pub runsOn : S.Event → List ℕ → Machine → Ran
 runsOn (S.byte b) o y =
-    let x = byteDone (length o) b (y .run) (y .commands) (y .device) in
-    speaks (x .done) o (x .run) (x .commands) (y .packets)
-runsOn S.tick o y = keepsStill (tickDone (length o) (y .device)) o (y .run) (y .commands) (y .packets)
-runsOn S.clear o y = keepsStill (clearDone (length o) (y .device)) o (y .run) (y .commands) (y .packets)
-runsOn S.busy o y = speaks (busyDone (length o) (y .commands) (y .device)) o (y .run) (y .commands) (y .packets)
-runsOn (S.sent airtime) o y = speaks (sentDone (length o) airtime (y .commands) (y .device)) o (y .run) (y .commands) (y .packets)
-runsOn S.configured o y = speaks (configuredDone (length o) (y .commands) (y .device)) o (y .run) (y .commands) (y .packets)
-runsOn S.fault o y = speaks (faultDone (length o) (y .commands) (y .device)) o (y .run) (y .commands) (y .packets)
+    let x = byteOut (length o) b (y .run) (y .commands) (y .device) in
+    speaks (x .gives) o (x .run) (x .commands) (y .packets)
+runsOn S.tick o y = keepsStill (tickOut (length o) (y .device)) o (y .run) (y .commands) (y .packets)
+runsOn S.clear o y = keepsStill (clearOut (length o) (y .device)) o (y .run) (y .commands) (y .packets)
+runsOn S.busy o y = speaks (busyOut (length o) (y .commands) (y .device)) o (y .run) (y .commands) (y .packets)
+runsOn (S.sent airtime) o y = speaks (sentOut airtime (length o) (y .commands) (y .device)) o (y .run) (y .commands) (y .packets)
+runsOn S.configured o y = speaks (configuredOut (length o) (y .commands) (y .device)) o (y .run) (y .commands) (y .packets)
+runsOn S.fault o y = speaks (faultOut (length o) (y .commands) (y .device)) o (y .run) (y .commands) (y .packets)
 runsOn (S.packet p) o y =
-    let x = packetDone (length o) p (y .packets) (y .device) in
-    keepsStill (x .done) o (y .run) (y .commands) (x .packets)
+    let x = packetOut (length o) p (y .packets) (y .device) in
+    keepsStill (x .gives) o (y .run) (y .commands) (x .packets)
 runsOn S.request o y =
-    let x = requestDone (length o) (y .packets) (y .device) in
-    speaks (x .done) o (y .run) (y .commands) (x .packets)
-runsOn S.disconnect o y = keepsStill (disconnectDone (length o) (y .device)) o (y .run) (y .commands) (y .packets)
+    let x = requestOut (length o) (y .packets) (y .device) in
+    speaks (x .gives) o (y .run) (y .commands) (x .packets)
+runsOn S.disconnect o y = keepsStill (disconnectOut (length o) (y .device)) o (y .run) (y .commands) (y .packets)
 
 unfoldable pub runs : Machine → Call → Ran
 runs y c = runsOn (c .event) (c .out) y
 
--- the contract: the answer, with the next state in it, the three memories and the output are those of x
-pub record Runs (x : Ran) (r : Answer) (run' m' p' o' : List ℕ) : Type 0 where
-  pub answers : r ≡ x .answer
-  pub run : run' ≡ x .next .run
-  pub commands : m' ≡ x .next .commands
-  pub packets : p' ≡ x .next .packets
-  pub out : o' ≡ x .out
+-- what is left of a call: the next state, the answer in numbers, the three memories and the output
+pub record Left : Type 0 where
+  pub device : Device
+  pub answer : List ℕ
+  pub run : List ℕ
+  pub commands : List ℕ
+  pub packets : List ℕ
+  pub out : List ℕ
+
+unfoldable pub leaves : Machine → Call → Left
+leaves y c =
+    let x = runs y c in
+    record {
+      device = x .next .device;
+      answer = answerNumbers (x .answer);
+      run = x .next .run;
+      commands = x .next .commands;
+      packets = x .next .packets;
+      out = x .out;
+    }

@@ -1,5 +1,7 @@
 // The device in code as one function: any of the ten events, with the state and its memories.
-ghost use Rattle.machine.specs.Machine.{machine, eventOf, runs, Runs};
+ghost use mathlib.Core.Path.{_≡_};
+ghost use Rattle.control.specs.Control.{answerNumbers};
+ghost use Rattle.machine.specs.Machine.{eventOf, leaves};
 use control::Answer;
 use control::Device;
 use inbox::Heard;
@@ -32,7 +34,17 @@ pub fn step(
     packets: &mut [u8; PACKETS],
     out: &mut [u8],
 ) -> Answer
-    ensures { λ r. ⌜ Runs (runs (machine d (now (run .entry)) (now (commands .entry)) (now (packets .entry))) (record { event = eventOf e (now (bytes .entry)); out = now (out .entry) })) r (now (run .exit)) (now (commands .exit)) (now (packets .exit)) (now (out .exit)) ⌝ }
+    ensures { λ r. ⌜ leaves
+        (record { device = d; run = now (run .entry); commands = now (commands .entry); packets = now (packets .entry) })
+        (record { event = eventOf e (now (bytes .entry)); out = now (out .entry) })
+        ≡ record {
+          device = r .device;
+          answer = answerNumbers r;
+          run = now (run .exit);
+          commands = now (commands .exit);
+          packets = now (packets .exit);
+          out = now (out .exit);
+        } ⌝ }
 {
     let room = out.len();
     match e {

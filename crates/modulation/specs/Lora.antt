@@ -10,11 +10,17 @@ use Rattle.modulation.specs.declared.Lora.{Lora}
 abbrev freq-hz : Column
 freq-hz = column 0 4
 
+abbrev pub sf-at : ℕ
+sf-at = 4
+
 abbrev sf : Column
-sf = column 4 1
+sf = column sf-at 1
+
+abbrev pub bw-at : ℕ
+bw-at = 5
 
 abbrev bw : Column
-bw = column 5 1
+bw = column bw-at 1
 
 abbrev cr : Column
 cr = column 6 1

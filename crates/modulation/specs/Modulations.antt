@@ -23,19 +23,23 @@ FSK = 2
 abbrev pub modulation-id : Column
 modulation-id = column 0 1
 
+-- where the parameters stand, after it
+abbrev pub params-at : ℕ
+params-at = 1
+
 abbrev pub paramsOf : List ℕ → List ℕ
-paramsOf p = drop 1 p
+paramsOf p = drop params-at p
 
 -- 01, FORM: a modulation not 1 or 2 or sync_word_len over 8; the sizes are P 10's
 abbrev fskForm : List ℕ → Form
 fskForm p =
-    cond (ltb (length p) (1 + fskSize)) F.Wrong
+    cond (ltb (length p) (params-at + fskSize)) F.Wrong
     (cond (ltb syncWordMax (get sync-word-len (paramsOf p))) F.Wrong
-    (F.Size (1 + fskSize + get sync-word-len (paramsOf p))))
+    (F.Size (params-at + fskSize + get sync-word-len (paramsOf p))))
 
 unfoldable pub configForm : List ℕ → Form
 configForm p =
-    cond (eqb (get modulation-id p) LORA) (F.Size (1 + loraSize))
+    cond (eqb (get modulation-id p) LORA) (F.Size (params-at + loraSize))
     (cond (eqb (get modulation-id p) FSK) (fskForm p)
     F.Wrong)
 
@@ -52,4 +56,4 @@ configBytes (M.Fsk m) word = FSK ∷ (fskBytes m ++ word)
 
 -- the sync word in a payload of that form: after FSK's parameters, as many bytes as they say; further bytes are no part of it
 unfoldable pub syncWord : List ℕ → List ℕ
-syncWord p = cond (eqb (get modulation-id p) FSK) (take (get sync-word-len (paramsOf p)) (drop (1 + fskSize) p)) []
+syncWord p = cond (eqb (get modulation-id p) FSK) (take (get sync-word-len (paramsOf p)) (drop (params-at + fskSize) p)) []

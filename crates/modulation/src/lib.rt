@@ -15,14 +15,20 @@ use form::Form;
 pub const LORA: u8 = 1;
 
 pub const FSK: u8 = 2;
-// The bytes of LoRa's parameters: P 10.1.
-const LORA_SIZE: usize = 15;
-// The bytes of FSK's parameters before the sync word: P 10.2.
-const FSK_SIZE: usize = 16;
-// Where sync_word_len stands among them.
-const SYNC_WORD_LEN: usize = 15;
+// Where the parameters stand in the payload of a configuration, after the modulation: P 6.3.
+pub const PARAMS: usize = 1;
+// The bytes of LoRa's parameters, and where sf and bw stand among them: P 10.1.
+pub const LORA_SIZE: usize = 15;
+
+pub const SF: usize = 4;
+
+pub const BW: usize = 5;
+// The bytes of FSK's parameters before the sync word, and where its length stands among them: P 10.2.
+pub const FSK_SIZE: usize = 16;
+
+pub const SYNC_WORD_LEN: usize = 15;
 // The longest sync word: P 10.2.
-const SYNC_WORD_MAX: u8 = 8;
+pub const SYNC_WORD_MAX: u8 = 8;
 
 // LoRa's parameters: P 10.1.
 pub struct Lora {
@@ -63,19 +69,19 @@ pub fn config_form(payload: &[u8]) -> Form
     }
     let id = payload[0];
     if id == LORA {
-        return Form::Size(1 + LORA_SIZE);
+        return Form::Size(PARAMS + LORA_SIZE);
     }
     if id != FSK {
         return Form::Wrong;
     }
-    if payload.len() < 1 + FSK_SIZE {
+    if payload.len() < PARAMS + FSK_SIZE {
         return Form::Wrong;
     }
-    let word = payload[1 + SYNC_WORD_LEN];
+    let word = payload[PARAMS + SYNC_WORD_LEN];
     if SYNC_WORD_MAX < word {
         return Form::Wrong;
     }
-    Form::Size(1 + FSK_SIZE + word as usize)
+    Form::Size(PARAMS + FSK_SIZE + word as usize)
 }
 
 // The configuration in a payload of that form. A helper of the crates above, as the next: they show
@@ -85,7 +91,7 @@ pub fn config_of(payload: &[u8]) -> Modulation
     ensures { λ r. ⌜ r ≡ configOf (now (payload .entry)) ⌝ }
 {
     let modulation = payload[0];
-    let params = &payload[1..];
+    let params = &payload[PARAMS..];
     if modulation == LORA {
         return Modulation::Lora(lora_of(params));
     }
@@ -97,14 +103,14 @@ pub fn config_of(payload: &[u8]) -> Modulation
 pub fn sync_word(payload: &[u8]) -> &[u8]
     ensures { λ r. ⌜ now r ≡ syncWord (now (payload .entry)) ⌝ }
 {
-    if payload.len() <= 1 + SYNC_WORD_LEN {
+    if payload.len() <= PARAMS + SYNC_WORD_LEN {
         return &payload[..0];
     }
     if payload[0] != FSK {
         return &payload[..0];
     }
-    let len = payload[1 + SYNC_WORD_LEN];
-    buffer::part(payload, 1 + FSK_SIZE, len as usize)
+    let len = payload[PARAMS + SYNC_WORD_LEN];
+    buffer::part(payload, PARAMS + FSK_SIZE, len as usize)
 }
 
 // Writes the payload of a configuration, with the bytes of its sync word, from index at on, and
@@ -151,8 +157,8 @@ fn lora_of(params: &[u8]) -> Lora
     let tx_power_dbm = scalar::i8_of(params[11]);
     Lora {
         freq_hz,
-        sf: params[4],
-        bw: params[5],
+        sf: params[SF],
+        bw: params[BW],
         cr: params[6],
         preamble_len,
         sync_word,
@@ -205,7 +211,7 @@ fn fsk_of(params: &[u8]) -> Fsk
         freq_dev_hz,
         rx_bw: params[12],
         preamble_len,
-        sync_word_len: params[15],
+        sync_word_len: params[SYNC_WORD_LEN],
     }
 }
 

@@ -9,40 +9,39 @@ ghost use Rattle.modulation.specs.Modulations.{configOf};
 ghost use Rattle.device.specs.Frames.{needsConfig, strange, configSized, sized, good, objects};
 ghost use Rattle.objection.specs.Objection.{codeOf};
 use board::TX_MAX;
+use command::FLAGS_MAX;
+use command::FLAGS_SIZE;
+use kind::EBUSY;
+use kind::ELENGTH;
+use kind::EMODULATION;
+use kind::ENOTCONFIGURED;
+use kind::EPARAM;
+use kind::EUNKNOWN_CMD;
+use kind::PACKET_MAX;
 use kind::RX_START;
 use kind::RX_STOP;
 use kind::SET_CONFIG;
 use kind::TX;
 use modulation::FSK;
+use modulation::FSK_SIZE;
 use modulation::LORA;
+use modulation::LORA_SIZE;
+use modulation::PARAMS;
+use modulation::SYNC_WORD_LEN;
 
-// P 7: error codes.
-const EPARAM: u16 = 0x0001;
-
-const ELENGTH: u16 = 0x0002;
-
-const ENOTCONFIGURED: u16 = 0x0003;
-
-const EMODULATION: u16 = 0x0004;
-
-const EUNKNOWN_CMD: u16 = 0x0005;
-
-const EBUSY: u16 = 0x0006;
 // No objection.
 pub const NONE: u16 = 0;
 // The payload of a SET_CONFIG: LoRa's whole, FSK's without the sync word, and where sync_word_len
 // stands in it.
-const LORA_SIZE: usize = 16;
+const LORA_WHOLE: usize = PARAMS + LORA_SIZE;
 
-const FSK_SIZE: usize = 17;
+const FSK_LEAST: usize = PARAMS + FSK_SIZE;
 
-const SYNC_WORD_LEN: usize = 16;
-// The payload of a TX: flags and 1 to 255 bytes; and the highest flags.
-const TX_LEAST: usize = 2;
+const WORD_LEN_AT: usize = PARAMS + SYNC_WORD_LEN;
+// The payload of a TX: flags and 1 to 255 bytes.
+const TX_LEAST: usize = FLAGS_SIZE + 1;
 
-const TX_MOST: usize = 256;
-
-const FLAGS_MAX: u8 = 1;
+const TX_MOST: usize = FLAGS_SIZE + PACKET_MAX;
 
 // The code of the first objection that applies, or 0: bare says whether the device is UNCONFIGURED,
 // and count how many TX are open.
@@ -98,13 +97,13 @@ fn is_config_sized(payload: &[u8]) -> bool
     }
     let id = payload[0];
     if id == LORA {
-        return n == LORA_SIZE;
+        return n == LORA_WHOLE;
     }
-    if n < FSK_SIZE {
+    if n < FSK_LEAST {
         return false;
     }
-    let word = payload[SYNC_WORD_LEN] as usize;
-    n == FSK_SIZE + word
+    let word = payload[WORD_LEN_AT] as usize;
+    n == FSK_LEAST + word
 }
 
 // Whether a payload has a size that its type allows.

@@ -4,7 +4,7 @@ ghost use mathlib.Core.Path.{_≡_};
 ghost use Prim.Native.Nat.{_≤_};
 ghost use lib.ListN.{length};
 ghost use Rattle.cobs.specs.Answers.{encodedMax};
-ghost use Rattle.frame.specs.Reading.{openBody, openAnswer, openLeft, unpackLeft};
+ghost use Rattle.frame.specs.Reading.{openBody, openAnswer, openLeft, unpackLeft, openedSays};
 use cobs::BODY_MAX;
 use cobs::Decoded;
 use cobs::ENCODED_MAX;
@@ -15,7 +15,7 @@ use numbers::Refusal;
 
 // Reads a run, a frame without its zero, into lent memory, whatever message it holds.
 pub fn open(run: &[u8], dst: &mut [u8]) -> Opened
-    ensures { λ r. ⌜ r ≡ openAnswer (now (run .entry)) (length (now (dst .entry))) ⌝ }
+    ensures { λ r. ⌜ openedSays r ≡ openedSays (openAnswer (now (run .entry)) (length (now (dst .entry)))) ⌝ }
     ensures { λ r. ⌜ now (dst .exit) ≡ openLeft (now (run .entry)) (now (dst .entry)) ⌝ }
 {
     let mut memory = [0u8; ENCODED_MAX];

@@ -10,13 +10,14 @@ use types.Run.{OneOf, miss}
 use lib.ListN.{length}
 use Rattle.numbers.specs.Numbers.{PLACE}
 use Rattle.buffer.specs.Lay.{lay}
-use Rattle.device.specs.Messages.{Frame, ERADIO}
+use Rattle.kind.specs.Kinds.{ERADIO}
+use Rattle.device.specs.Messages.{Frame}
 use Rattle.wire.specs.Wire.{sends}
 use Rattle.wire.proofs.Laws.{Sent, sends-one, length-err}
 use Rattle.control.specs.declared.Radio.{Radio}
 use Rattle.control.specs.declared.Radio.the-variants.{Free, Listening, OnAir, Orphan, Configuring}
 use Rattle.control.specs.declared.Device.{Device}
-use Rattle.control.specs.Control.{Done, refused, says}
+use Rattle.control.specs.Control.{says, Out, refused}
 use Rattle.control.proofs.Radio.{the-type}
 use Rattle.queue.specs.Queue.{afterTx}
 use Rattle.outcome.specs.Outcomes.{onSent, onFault, noted}
@@ -30,7 +31,7 @@ abbrev not-listening : List ℕ
 not-listening = 0 ∷ 2 ∷ 3 ∷ 4 ∷ []
 
 -- f gives y in each of them
-pub unless-listening : (f : Radio → Done) {y : Done} → f Free ≡ y → ((t : ℕ) → f (OnAir t) ≡ y) → f Orphan ≡ y → f Configuring ≡ y → (r : Radio)
+pub unless-listening : (f : Radio → Out) {y : Out} → f Free ≡ y → ((t : ℕ) → f (OnAir t) ≡ y) → f Orphan ≡ y → f Configuring ≡ y → (r : Radio)
     → Arm not-listening r → f r ≡ y
 unless-listening f a b p q Free k = a
 unless-listening f a b p q (Listening t) k = absurd (miss not-listening 1 tt k)

@@ -4,38 +4,39 @@ use Prim.Native.Nat.{ℕ}
 use mathlib.Core.Bool.{Bool}
 use mathlib.Core.List.{List, [], _∷_, map}
 use Rattle.numbers.specs.Numbers.{PLACE}
-use Rattle.device.specs.Messages.{Frame, seen, err, txDone, ERADIO, TRANSMITTED, CHANNEL-BUSY, CANCELLED}
+use Rattle.kind.specs.Kinds.{ERADIO, TRANSMITTED, CHANNEL-BUSY, CANCELLED}
+use Rattle.device.specs.Messages.{Frame, seen, err, txDone}
 use Rattle.device.specs.Events.{heard}
 use Rattle.control.specs.declared.Mode.the-variants.{Unconfigured}
 use Rattle.control.specs.declared.Radio.{Radio}
 use Rattle.control.specs.declared.Radio.the-variants.{Free, Listening, OnAir, Orphan, Configuring}
 use Rattle.control.specs.declared.Device.{Device}
 use Rattle.control.specs.declared.Order.the-variants.{Nothing, Standby}
-use Rattle.control.specs.Control.{device, withAir, withRadio, Done, taken, refused, within, says}
+use Rattle.control.specs.Control.{device, withAir, withRadio, Done, does, says, Out, taken, refused, within}
 use Rattle.slot.specs.Slots.{setting, tagAt}
 use Rattle.queue.specs.Queue.{afterTx}
 
 -- ---- clear, busy, sent
 
-abbrev pub onClear : Radio → Device → Done
+abbrev pub onClear : Radio → Device → Out
 onClear Free d = refused PLACE d
-onClear (Listening t) d = taken (withAir d (withRadio (d .air) (OnAir t))) [] Nothing
+onClear (Listening t) d = taken (does (withAir d (withRadio (d .air) (OnAir t))) [] Nothing)
 onClear (OnAir t) d = refused PLACE d
 onClear Orphan d = refused PLACE d
 onClear Configuring d = refused PLACE d
 
-abbrev pub onBusy : Radio → List ℕ → Device → Done
+abbrev pub onBusy : Radio → List ℕ → Device → Out
 onBusy Free m d = refused PLACE d
-onBusy (Listening t) m d = says (seen (txDone CHANNEL-BUSY 0 t) ∷ []) (afterTx m d)
+onBusy (Listening t) m d = taken (says (seen (txDone CHANNEL-BUSY 0 t) ∷ []) (afterTx m d))
 onBusy (OnAir t) m d = refused PLACE d
 onBusy Orphan m d = refused PLACE d
 onBusy Configuring m d = refused PLACE d
 
-abbrev pub onSent : ℕ → Radio → List ℕ → Device → Done
+abbrev pub onSent : ℕ → Radio → List ℕ → Device → Out
 onSent airtime Free m d = refused PLACE d
 onSent airtime (Listening t) m d = refused PLACE d
-onSent airtime (OnAir t) m d = says (seen (txDone TRANSMITTED airtime t) ∷ []) (afterTx m d)
-onSent airtime Orphan m d = afterTx m d
+onSent airtime (OnAir t) m d = taken (says (seen (txDone TRANSMITTED airtime t) ∷ []) (afterTx m d))
+onSent airtime Orphan m d = taken (afterTx m d)
 onSent airtime Configuring m d = refused PLACE d
 
 -- ---- fault
@@ -50,7 +51,7 @@ lost t m d = says (noted (d .link .session) 0) (says (seen (txDone CANCELLED 0 t
 
 abbrev pub failed : List ℕ → Device → Done
 failed m d =
-    taken (device Unconfigured (d .link) (withRadio (d .air) Free) (d .inbox)) (noted (d .link .session) (tagAt m setting)) Standby
+    does (device Unconfigured (d .link) (withRadio (d .air) Free) (d .inbox)) (noted (d .link .session) (tagAt m setting)) Standby
 
 abbrev pub onFault : Radio → List ℕ → Device → Done
 onFault Free m d = says (noted (d .link .session) 0) (afterTx m d)
@@ -61,14 +62,14 @@ onFault Configuring m d = failed m d
 
 -- ---- the four outcomes, with output of so much room
 
-unfoldable pub clearDone : ℕ → Device → Done
-clearDone room d = within room d (onClear (d .air .radio) d)
+unfoldable pub clearOut : ℕ → Device → Out
+clearOut room d = within room d (onClear (d .air .radio) d)
 
-unfoldable pub busyDone : ℕ → List ℕ → Device → Done
-busyDone room m d = within room d (onBusy (d .air .radio) m d)
+unfoldable pub busyOut : ℕ → List ℕ → Device → Out
+busyOut room m d = within room d (onBusy (d .air .radio) m d)
 
-unfoldable pub sentDone : ℕ → ℕ → List ℕ → Device → Done
-sentDone room airtime m d = within room d (onSent airtime (d .air .radio) m d)
+unfoldable pub sentOut : ℕ → ℕ → List ℕ → Device → Out
+sentOut airtime room m d = within room d (onSent airtime (d .air .radio) m d)
 
-unfoldable pub faultDone : ℕ → List ℕ → Device → Done
-faultDone room m d = within room d (onFault (d .air .radio) m d)
+unfoldable pub faultOut : ℕ → List ℕ → Device → Out
+faultOut room m d = within room d (taken (onFault (d .air .radio) m d))

@@ -11,6 +11,7 @@ ghost use lib.ListN.{length};
 use command::Command;
 use control::Answer;
 use control::Device;
+use control::ROOM_MIN;
 use frame::Written;
 use inbox::Heard;
 use inbox::PACKETS;
@@ -19,8 +20,6 @@ use modulation::Lora;
 use modulation::Modulation;
 use slot::COMMANDS;
 
-// The output that is lent: just enough.
-const ROOM: usize = 283;
 // Bytes are counted modulo this.
 const MANY: usize = 1000000;
 
@@ -71,7 +70,7 @@ fn ticks(c: Count) -> Count {
     let mut i: usize = 0;
     while i < 999 {
         i += 1;
-        e = add(e, session::tick(e.device, ROOM));
+        e = add(e, session::tick(e.device, ROOM_MIN));
     }
     e
 }
@@ -79,7 +78,7 @@ fn ticks(c: Count) -> Count {
 // A disconnect, with the bytes of the run counted before it.
 fn leave(c: Count) -> Count {
     let link = c.device.link;
-    let a = session::disconnect(c.device, ROOM);
+    let a = session::disconnect(c.device, ROOM_MIN);
     let device = a.device;
     Count {
         device,
@@ -96,7 +95,7 @@ fn hear(c: Count, bytes: &[u8], packets: &mut [u8; PACKETS]) -> Count {
         time: 4242,
         crc: true,
     };
-    let a = inbox::packet(c.device, heard, bytes, packets, ROOM);
+    let a = inbox::packet(c.device, heard, bytes, packets, ROOM_MIN);
     add(c, a)
 }
 
@@ -220,7 +219,7 @@ fn send(
     commands: &mut [u8; COMMANDS],
     out: &mut [u8],
 ) -> Count {
-    let mut frame = [0u8; ROOM];
+    let mut frame = [0u8; ROOM_MIN];
     let n = frame_of(command, &[], &mut frame);
     feed(c, buffer::part(&frame, 0, n), run, commands, out)
 }
@@ -246,9 +245,9 @@ fn work(what: u8, n: usize) -> usize {
     let mut run = link::empty_run();
     let mut commands = slot::empty_commands();
     let mut packets = inbox::empty_packets();
-    let mut out = [0u8; ROOM];
-    let mut ping = [0u8; ROOM];
-    let mut tx = [0u8; ROOM];
+    let mut out = [0u8; ROOM_MIN];
+    let mut ping = [0u8; ROOM_MIN];
+    let mut tx = [0u8; ROOM_MIN];
     let all = bytes();
     let pings = frame_of(Command::Ping, &[], &mut ping);
     let txs = frame_of(Command::Tx { flags: 1 }, &all, &mut tx);

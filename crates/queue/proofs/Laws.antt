@@ -4,17 +4,17 @@
 use Prim.Native.Nat.{ℕ, zero, suc, _+_, _-_, _*_, _%_, _<_, _≤_}
 use mathlib.Core.Path.{_≡_, refl, sym, ap, _∙_}
 use mathlib.Core.Bool.{true, false}
-use mathlib.Core.List.{List, _∷_, _++_}
+use mathlib.Core.List.{List, _++_}
 use native.Mathlib.Omega.{arith}
-use lib.ListN.{length, set, length-append}
-use Rattle.scalar.specs.Scalars.{le}
+use lib.ListN.{length, length-append}
 use Rattle.buffer.specs.Lay.{lay}
-use Rattle.buffer.proofs.Laws.{lay-none, lay-next}
-use Rattle.device.specs.Messages.{seen, txDone, CANCELLED}
+use Rattle.buffer.proofs.Laws.{lay-none}
+use Rattle.kind.specs.Kinds.{CANCELLED}
+use Rattle.device.specs.Messages.{seen, txDone}
 use Rattle.wire.specs.Wire.{bytesOf, sends, Says}
 use Rattle.wire.proofs.Laws.{lay-after, length-done}
 use Rattle.control.specs.declared.Device.{Device}
-use Rattle.slot.specs.Slots.{slotBytes, tagAt}
+use Rattle.slot.specs.Slots.{tagAt}
 use Rattle.queue.specs.Queue.{start, waitingTags, cancels, begin, next, afterTx}
 
 -- ---- those that wait

@@ -3,32 +3,35 @@
 ghost use mathlib.Core.Path.{_≡_};
 ghost use Prim.Native.Nat.{_+_, _*_, _≤_, _<_, min};
 ghost use lib.ListN.{length};
-ghost use Rattle.control.specs.Control.{Gives, answerOf};
-ghost use Rattle.wire.specs.Wire.{sends};
+ghost use Rattle.board.specs.Board.{txMax};
+ghost use Rattle.control.specs.Control.{Gives, doneAt};
+ghost use Rattle.wire.specs.Wire.{sends, done-room};
 ghost use Rattle.buffer.specs.Lay.{lay};
-ghost use Rattle.queue.specs.Queue.{listens, begun, start, waitingTags, cancels, ldroAt, begin, afterTx};
+ghost use Rattle.queue.specs.Queue.{cancel-room, listens, begun, start, waitingTags, cancels, ldroAt, begin, afterTx};
 use board::TX_MAX;
+use command::FLAGS_SIZE;
 use control::Air;
-use control::Answer;
 use control::Device;
 use control::Mode;
 use control::Order;
 use control::Radio;
+use control::Taken;
+use kind::CANCELLED;
+use modulation::BW;
+use modulation::PARAMS;
+use modulation::SF;
 use slot::COMMANDS;
-use slot::PAYLOAD;
+use slot::PAYLOAD_AT;
 use slot::SETTING;
 use slot::SLOT_SIZE;
-use slot::TAG;
+use slot::TAG_AT;
 
 // Where the packet stands in the slot of a TX, after its flags.
-const PACKET: usize = 4;
-// Where sf and bw stand in the payload of a SET_CONFIG: P 10.1, after the modulation.
-const SF: usize = 5;
+const PACKET_AT: usize = PAYLOAD_AT + FLAGS_SIZE;
+// Where sf and bw stand in the payload of a SET_CONFIG.
+const SF_AT: usize = PARAMS + SF;
 
-const BW: usize = 6;
-
-// P 6.10: the result of a TX that was cancelled.
-pub const CANCELLED: u8 = 2;
+const BW_AT: usize = PARAMS + BW;
 
 // Whether a TX listens first.
 fn listens(mode: Mode, flags: u8) -> bool
@@ -52,15 +55,15 @@ fn begun(listen: bool, tag: u16) -> Radio
 }
 
 // The TX in a slot starts; so many wait in the slots after it.
-pub fn start(d: Device, slot: usize, waiting: u8, commands: &[u8; COMMANDS], at: usize) -> Answer
-    requires { ⌜ slot < 16 ⌝ }
-    ensures { λ r. ⌜ r ≡ answerOf at (start (now (commands .entry)) slot waiting d) ⌝ }
+pub fn start(d: Device, slot: usize, waiting: u8, commands: &[u8; COMMANDS], at: usize) -> Taken
+    requires { ⌜ slot < txMax ⌝ }
+    ensures { λ r. ⌜ r ≡ doneAt at (start (now (commands .entry)) slot waiting d) ⌝ }
 {
     let base = slot * SLOT_SIZE;
     let len = slot::len_at(commands, base);
-    let tag = scalar::u16_at(commands, base + TAG);
+    let tag = scalar::u16_at(commands, base + TAG_AT);
     let mode = d.mode;
-    let listen = listens(mode, commands[base + PAYLOAD]);
+    let listen = listens(mode, commands[base + PAYLOAD_AT]);
     let radio = begun(listen, tag);
     let first = ((slot + 1) % TX_MAX) as u8;
     let air = Air {
@@ -71,16 +74,16 @@ pub fn start(d: Device, slot: usize, waiting: u8, commands: &[u8; COMMANDS], at:
     };
     let e = control::with_air(d, air);
     let order = Order::Transmit {
-        at: base + PACKET,
+        at: base + PACKET_AT,
         len,
         listen,
     };
-    control::accept(e, at, order)
+    control::done(e, at, order)
 }
 
 // Writes a TX_DONE 2 for each of n waiting TX, from a slot on, and answers where they end.
 fn cancel(slot: usize, n: usize, commands: &[u8; COMMANDS], out: &mut [u8], at: usize) -> usize
-    requires { ⌜ (slot < 16) × (at + 12 * n ≤ length (now out)) ⌝ }
+    requires { ⌜ (slot < txMax) × (at + done-room * n ≤ length (now out)) ⌝ }
     ensures { λ r. ⌜ r ≡ at + length (sends (cancels (waitingTags (now (commands .entry)) slot n))) ⌝ }
     ensures { λ r. ⌜ now (out .exit) ≡ lay at (sends (cancels (waitingTags (now (commands .entry)) slot n))) (now (out .entry)) ⌝ }
 {
@@ -88,7 +91,7 @@ fn cancel(slot: usize, n: usize, commands: &[u8; COMMANDS], out: &mut [u8], at: 
     let mut left = n;
     let mut w = at;
     while 0 < left {
-        let tag = scalar::u16_at(commands, k * SLOT_SIZE + TAG);
+        let tag = scalar::u16_at(commands, k * SLOT_SIZE + TAG_AT);
         w = wire::say_done(CANCELLED, 0, tag, out, w);
         k = (k + 1) % TX_MAX;
         left -= 1;
@@ -98,7 +101,7 @@ fn cancel(slot: usize, n: usize, commands: &[u8; COMMANDS], out: &mut [u8], at: 
 
 // So many TX wait: sixteen at most.
 fn few(n: u8) -> usize
-    ensures { λ r. ⌜ r ≡ min n 16 ⌝ }
+    ensures { λ r. ⌜ r ≡ min n txMax ⌝ }
 {
     let waiting = n as usize;
     if TX_MAX < waiting {
@@ -111,17 +114,17 @@ fn few(n: u8) -> usize
 fn ldro(commands: &[u8; COMMANDS]) -> bool
     ensures { λ r. ⌜ r ≡ ldroAt (now (commands .entry)) ⌝ }
 {
-    let at = SETTING * SLOT_SIZE + PAYLOAD;
+    let at = SETTING * SLOT_SIZE + PAYLOAD_AT;
     let id = commands[at];
     if id == modulation::LORA {
-        return board::slow(commands[at + SF], commands[at + BW]);
+        return board::slow(commands[at + SF_AT], commands[at + BW_AT]);
     }
     false
 }
 
 // The waiting TX are cancelled, and the radio is configured.
-pub fn configure(d: Device, commands: &[u8; COMMANDS], out: &mut [u8], at: usize) -> Answer
-    requires { ⌜ at + 192 ≤ length (now out) ⌝ }
+pub fn configure(d: Device, commands: &[u8; COMMANDS], out: &mut [u8], at: usize) -> Taken
+    requires { ⌜ at + cancel-room ≤ length (now out) ⌝ }
     ensures { λ r. ⌜ Gives (begin (now (commands .entry)) d) (now (out .entry)) at r (now (out .exit)) ⌝ }
 {
     let was = d.air;
@@ -139,16 +142,16 @@ pub fn configure(d: Device, commands: &[u8; COMMANDS], out: &mut [u8], at: usize
     let base = SETTING * SLOT_SIZE;
     let len = slot::len_at(commands, base);
     let order = Order::Configure {
-        at: base + PAYLOAD,
+        at: base + PAYLOAD_AT,
         len: len + 1,
         ldro: ldro(commands),
     };
-    control::accept(e, w, order)
+    control::done(e, w, order)
 }
 
 // What comes after a TX.
-pub fn after_tx(d: Device, commands: &[u8; COMMANDS], out: &mut [u8], at: usize) -> Answer
-    requires { ⌜ at + 192 ≤ length (now out) ⌝ }
+pub fn after_tx(d: Device, commands: &[u8; COMMANDS], out: &mut [u8], at: usize) -> Taken
+    requires { ⌜ at + cancel-room ≤ length (now out) ⌝ }
     ensures { λ r. ⌜ Gives (afterTx (now (commands .entry)) d) (now (out .entry)) at r (now (out .exit)) ⌝ }
 {
     let was = d.air;
@@ -169,5 +172,5 @@ pub fn after_tx(d: Device, commands: &[u8; COMMANDS], out: &mut [u8], at: usize)
     };
     let receiving = d.inbox.receiving;
     let e = control::with_air(d, air);
-    control::accept(e, at, control::idle(receiving))
+    control::done(e, at, control::idle(receiving))
 }

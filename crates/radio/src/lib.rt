@@ -1,9 +1,10 @@
 // The events of the radio's side, for callers that keep the state in words: its outcomes, and a packet
 // that was received.
 ghost use mathlib.Core.Path.{_≡_};
-ghost use Rattle.device.specs.State as S;
+ghost use Rattle.outcome.specs.Outcomes.{clearOut, busyOut, sentOut, faultOut};
+ghost use Rattle.configured.specs.Configured.{configuredOut};
 ghost use Rattle.inbox.specs.Packets.{packetOf};
-ghost use Rattle.dongle.specs.Calls.{Quiet, Speaks, Keeps};
+ghost use Rattle.dongle.specs.Calls.{stateCall, outcomeCall, packetCall};
 ghost use Rattle.radio.specs.Heard.{heardIn};
 use inbox::Heard;
 use inbox::PACKETS;
@@ -36,7 +37,8 @@ fn heard_of(h: HeardReport) -> Heard
 
 // The channel is clear.
 pub fn clear(control: &mut [u64; CONTROL], room: usize, answer: &mut [u64; ANSWER])
-    ensures { λ _. ⌜ Quiet S.clear room (now (control .entry)) (now (control .exit)) (now (answer .exit)) ⌝ }
+    ensures { λ _. ⌜ stateCall clearOut (record { control = now (control .entry); room = room })
+        ≡ record { control = now (control .exit); answer = now (answer .exit) } ⌝ }
 {
     let d = words::device_of(control);
     let a = outcome::clear(d, room);
@@ -50,7 +52,8 @@ pub fn busy(
     out: &mut [u8],
     answer: &mut [u64; ANSWER],
 )
-    ensures { λ _. ⌜ Speaks S.busy (now (control .entry)) (now (commands .entry)) (now (out .entry)) (now (control .exit)) (now (out .exit)) (now (answer .exit)) ⌝ }
+    ensures { λ _. ⌜ outcomeCall busyOut (record { control = now (control .entry); commands = now (commands .entry); out = now (out .entry) })
+        ≡ record { control = now (control .exit); out = now (out .exit); answer = now (answer .exit) } ⌝ }
 {
     let d = words::device_of(control);
     let a = outcome::busy(d, commands, out);
@@ -65,7 +68,8 @@ pub fn sent(
     out: &mut [u8],
     answer: &mut [u64; ANSWER],
 )
-    ensures { λ _. ⌜ Speaks (S.sent airtime) (now (control .entry)) (now (commands .entry)) (now (out .entry)) (now (control .exit)) (now (out .exit)) (now (answer .exit)) ⌝ }
+    ensures { λ _. ⌜ outcomeCall (sentOut airtime) (record { control = now (control .entry); commands = now (commands .entry); out = now (out .entry) })
+        ≡ record { control = now (control .exit); out = now (out .exit); answer = now (answer .exit) } ⌝ }
 {
     let d = words::device_of(control);
     let a = outcome::sent(d, airtime, commands, out);
@@ -79,7 +83,8 @@ pub fn configured(
     out: &mut [u8],
     answer: &mut [u64; ANSWER],
 )
-    ensures { λ _. ⌜ Speaks S.configured (now (control .entry)) (now (commands .entry)) (now (out .entry)) (now (control .exit)) (now (out .exit)) (now (answer .exit)) ⌝ }
+    ensures { λ _. ⌜ outcomeCall configuredOut (record { control = now (control .entry); commands = now (commands .entry); out = now (out .entry) })
+        ≡ record { control = now (control .exit); out = now (out .exit); answer = now (answer .exit) } ⌝ }
 {
     let d = words::device_of(control);
     let a = configured::configured(d, commands, out);
@@ -93,7 +98,8 @@ pub fn fault(
     out: &mut [u8],
     answer: &mut [u64; ANSWER],
 )
-    ensures { λ _. ⌜ Speaks S.fault (now (control .entry)) (now (commands .entry)) (now (out .entry)) (now (control .exit)) (now (out .exit)) (now (answer .exit)) ⌝ }
+    ensures { λ _. ⌜ outcomeCall faultOut (record { control = now (control .entry); commands = now (commands .entry); out = now (out .entry) })
+        ≡ record { control = now (control .exit); out = now (out .exit); answer = now (answer .exit) } ⌝ }
 {
     let d = words::device_of(control);
     let a = outcome::fault(d, commands, out);
@@ -109,7 +115,9 @@ pub fn packet(
     room: usize,
     answer: &mut [u64; ANSWER],
 )
-    ensures { λ _. ⌜ Keeps (packetOf (heardIn heard) (now (bytes .entry))) (now (control .entry)) (now (packets .entry)) room (now (control .exit)) (now (packets .exit)) (now (answer .exit)) ⌝ }
+    ensures { λ _. ⌜ packetCall (packetOf (heardIn heard) (now (bytes .entry)))
+        (record { control = now (control .entry); packets = now (packets .entry); room = room })
+        ≡ record { control = now (control .exit); packets = now (packets .exit); answer = now (answer .exit) } ⌝ }
 {
     let d = words::device_of(control);
     let h = heard_of(heard);

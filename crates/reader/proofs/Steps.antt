@@ -1,6 +1,6 @@
 -- What reading answers and leaves, by the verdict: each law is one way through the code. And what an answer tells of the run that was read.
 -- Assumes nothing.
-use mathlib.Core.Path.{_≡_, refl}
+use mathlib.Core.Path.{_≡_, refl, sym, _∙_}
 use mathlib.Core.List.{List}
 use Prim.Native.Nat.{ℕ, _+_, _-_, _≤_}
 use native.Mathlib.Omega.{arith}
@@ -10,10 +10,11 @@ use Rattle.numbers.specs.declared.Refusal.{Refusal}
 use Rattle.buffer.specs.Lay.{lay}
 use Rattle.cobs.specs.Decoding.{decoded}
 use Rattle.frame.specs.Body.{overhead, payloadOf}
-use Rattle.frame.specs.Reading.{openAnswer}
+use Rattle.frame.specs.Reading.{openAnswer, openedSays}
 use Rattle.frame.specs.declared.Opened.{Opened}
 use Rattle.frame.specs.declared.Opened.the-variants as O
 use Rattle.frame.proofs.Laws.{opens-facts}
+use Rattle.frame.proofs.Same.{opened-same}
 use Rattle.verdict.specs.Judging.{fitsRead, judge}
 use Rattle.verdict.specs.declared.Kinds.{Kinds}
 use Rattle.verdict.specs.declared.Judged.{Judged}
@@ -42,6 +43,11 @@ module _ (kinds : Kinds) (run d : List ℕ) where
     takes j = (rw (e, j), rw (e, j))
 
 -- ---- what was read, in the caller's memory
+
+-- what a reader answered, by a match on it
+pub received : (kinds : Kinds) (run d : List ℕ) {o case : Opened} → openedSays o ≡ openedSays (receiveAnswer kinds run (length d)) → o ≡ case
+    → receiveAnswer kinds run (length d) ≡ case
+received kinds run d e m = sym (opened-same _ (receiveAnswer kinds run (length d)) e) ∙ m
 
 sift-back : (kinds : Kinds) (b : List ℕ) (o : Opened) {k t n : ℕ} → sifted kinds b o ≡ O.Body k t n → o ≡ O.Body k t n
 sift-back kinds b (O.Refused r) e = absurd (let z : _≡_ {A = ℕ} 0 1 = cc in omega arith)

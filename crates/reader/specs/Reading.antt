@@ -2,12 +2,11 @@
 -- Assumes nothing.
 use Prim.Native.Nat.{ℕ}
 use mathlib.Core.List.{List, []}
+use mathlib.Core.Option.{Option, none, some}
 use lib.ListN.{length}
-use Rattle.numbers.specs.Numbers.{TAKEN}
-use Rattle.numbers.specs.Refusals.{refusalNumber}
 use Rattle.cobs.specs.Decoding.{decoded}
 use Rattle.frame.specs.Body.{payloadOf}
-use Rattle.frame.specs.Reading.{openAnswer, opens}
+use Rattle.frame.specs.Reading.{Head, openAnswer, opens}
 use Rattle.frame.specs.declared.Opened.{Opened}
 use Rattle.frame.specs.declared.Opened.the-variants as O
 use Rattle.verdict.specs.Judging.{fitsRead, judge}
@@ -32,19 +31,16 @@ receiveAnswer kinds run room = sifted kinds (decoded run) (openAnswer run room)
 unfoldable pub receiveLeft : Kinds → List ℕ → List ℕ → List ℕ
 receiveLeft kinds run d = opens (receiveAnswer kinds run (length d)) run d
 
--- What comes back one by one. A refused read hands back an empty part, and of type and tag what stood there.
-abbrev pub numberOf : Opened → ℕ
-numberOf (O.Body kind tag n) = TAKEN
-numberOf (O.Refused r) = refusalNumber r
+-- What comes back one by one, beside the number. A refused read hands back an empty part, and of type and tag what stood there.
+abbrev pub kindBy : Option Head → ℕ → ℕ
+kindBy none old = old
+kindBy (some h) old = h .kind
 
-abbrev pub kindBy : Opened → ℕ → ℕ
-kindBy (O.Body kind tag n) old = kind
-kindBy (O.Refused r) old = old
+abbrev pub tagBy : Option Head → ℕ → ℕ
+tagBy none old = old
+tagBy (some h) old = h .tag
 
-abbrev pub tagBy : Opened → ℕ → ℕ
-tagBy (O.Body kind tag n) old = tag
-tagBy (O.Refused r) old = old
-
-abbrev pub partBy : Opened → List ℕ → List ℕ
-partBy (O.Body kind tag n) b = payloadOf b
-partBy (O.Refused r) b = []
+-- the part of a body b that is handed back
+abbrev pub partBy : Option Head → List ℕ → List ℕ
+partBy none b = []
+partBy (some h) b = payloadOf b

@@ -3,7 +3,8 @@
 ghost use mathlib.Core.Path.{_≡_};
 ghost use lib.ListN.{length};
 ghost use Rattle.cobs.specs.Decoding.{decoded};
-ghost use Rattle.reader.specs.Reading.{receiveAnswer, receiveLeft, numberOf, kindBy, tagBy, partBy};
+ghost use Rattle.frame.specs.Reading.{openedSays};
+ghost use Rattle.reader.specs.Reading.{receiveAnswer, receiveLeft, kindBy, tagBy, partBy};
 use cobs::ENCODED_MAX;
 use frame::OVERHEAD;
 use frame::Opened;
@@ -14,7 +15,7 @@ use verdict::Kinds;
 
 // Reads a run, a frame without its zero, into lent memory. A refusal leaves every byte of it.
 pub fn receive(kinds: Kinds, run: &[u8], dst: &mut [u8]) -> Opened
-    ensures { λ r. ⌜ r ≡ receiveAnswer kinds (now (run .entry)) (length (now (dst .entry))) ⌝ }
+    ensures { λ r. ⌜ openedSays r ≡ openedSays (receiveAnswer kinds (now (run .entry)) (length (now (dst .entry)))) ⌝ }
     ensures { λ r. ⌜ now (dst .exit) ≡ receiveLeft kinds (now (run .entry)) (now (dst .entry)) ⌝ }
 {
     let mut memory = [0u8; ENCODED_MAX];
@@ -41,10 +42,10 @@ pub fn read<'a>(
     kind: &mut u8,
     tag: &mut u16,
 ) -> &'a mut [u8]
-    ensures { λ r. ⌜ now r ≡ partBy (receiveAnswer kinds (now (run .entry)) (length (now (dst .entry)))) (decoded (now (run .entry))) ⌝ }
-    ensures { λ r. ⌜ now (number .exit) ≡ numberOf (receiveAnswer kinds (now (run .entry)) (length (now (dst .entry)))) ⌝ }
-    ensures { λ r. ⌜ now (kind .exit) ≡ kindBy (receiveAnswer kinds (now (run .entry)) (length (now (dst .entry)))) (now (kind .entry)) ⌝ }
-    ensures { λ r. ⌜ now (tag .exit) ≡ tagBy (receiveAnswer kinds (now (run .entry)) (length (now (dst .entry)))) (now (tag .entry)) ⌝ }
+    ensures { λ r. ⌜ now r ≡ partBy (openedSays (receiveAnswer kinds (now (run .entry)) (length (now (dst .entry)))) .value) (decoded (now (run .entry))) ⌝ }
+    ensures { λ r. ⌜ now (number .exit) ≡ openedSays (receiveAnswer kinds (now (run .entry)) (length (now (dst .entry)))) .number ⌝ }
+    ensures { λ r. ⌜ now (kind .exit) ≡ kindBy (openedSays (receiveAnswer kinds (now (run .entry)) (length (now (dst .entry)))) .value) (now (kind .entry)) ⌝ }
+    ensures { λ r. ⌜ now (tag .exit) ≡ tagBy (openedSays (receiveAnswer kinds (now (run .entry)) (length (now (dst .entry)))) .value) (now (tag .entry)) ⌝ }
 {
     match receive(kinds, run, dst) {
         Opened::Body {

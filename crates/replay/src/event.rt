@@ -1,6 +1,7 @@
 // The events of a script, one after the other: each is run, and its answer is noted in the trace.
 use crate::print;
 use control::Device;
+use control::ROOM_MIN;
 use inbox::Heard;
 use inbox::PACKETS;
 use link::RUN_MAX;
@@ -8,12 +9,8 @@ use machine::Event;
 use script::Item;
 use slot::COMMANDS;
 
-// The output that is lent at the start.
-const ROOM: usize = 283;
-// More output than this is not lent: no event tells the difference.
-const ROOM_MAX: usize = 4096;
-
-const MOST: u64 = 4096;
+// More output than this is not lent, or shown: no event tells the difference.
+pub(crate) const ROOM_MAX: usize = 4096;
 
 // Where a replay stands: the device, how many events there were, and how much output is lent.
 pub(crate) struct Replay {
@@ -27,7 +24,7 @@ pub(crate) fn start() -> Replay {
     Replay {
         device: control::power_up(),
         events: 0,
-        room: ROOM,
+        room: ROOM_MIN,
     }
 }
 
@@ -109,7 +106,7 @@ fn ticks(
 fn room(s: Replay, n: u64) -> Replay {
     let device = s.device;
     let mut lent = ROOM_MAX;
-    if n < MOST {
+    if n < (ROOM_MAX as u64) {
         lent = n as usize;
     }
     Replay {

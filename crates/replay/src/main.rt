@@ -16,11 +16,11 @@ use slot::COMMANDS;
 
 // The longest line that is kept, where blanks after a blank and a comment's text do not count. A
 // longer one is a bad line.
-const LINE: usize = 600000;
+const SCRIPT_LINE: usize = 600000;
 // How many bytes such a line may have: two digits and a blank each.
-const BYTES: usize = 200000;
+const LINE_BYTES: usize = 200000;
 // The longest name of a script.
-const NAME: usize = 4095;
+const SCRIPT_NAME: usize = 4095;
 // So many pieces are read at most. No script has as many: a proved loop has to end.
 const PIECES: u64 = 1 << 62;
 
@@ -57,17 +57,17 @@ fn start() -> Reading {
 }
 
 // The memory of lines.
-fn empty_line() -> [u8; LINE]
+fn empty_line() -> [u8; SCRIPT_LINE]
     ensures { λ r. ⌜ 600000 ≡ length r ⌝ }
 {
-    [0; LINE]
+    [0; SCRIPT_LINE]
 }
 
 // The memory of a line's bytes.
-fn empty_bytes() -> [u8; BYTES]
+fn empty_bytes() -> [u8; LINE_BYTES]
     ensures { λ r. ⌜ 200000 ≡ length r ⌝ }
 {
-    [0; BYTES]
+    [0; LINE_BYTES]
 }
 
 // Whether a byte is a blank.
@@ -301,7 +301,7 @@ fn open(name: &[u8]) -> i32 {
 
 // The descriptor of the script that argument i names, or -1.
 fn argument(i: usize) -> i32 {
-    let mut name = [0u8; NAME];
+    let mut name = [0u8; SCRIPT_NAME];
     let n = os::arg(i, &mut name);
     open(buffer::part(&name, 0, n))
 }

@@ -1,14 +1,13 @@
 // The trace, line by line. What a line has is the crate trace's.
+use crate::event::ROOM_MAX;
 use control::Answer;
 use libc::STDERR_FILENO;
 use libc::STDOUT_FILENO;
 use slot::COMMANDS;
 
-// So much output is shown at most: no event writes as much.
-const OUT: usize = 4096;
 // The longest line: two numbers, an order with all of the memory of commands in hexadecimal, so much
 // output, and what stands between them.
-const LINE: usize = 17700;
+const TRACE_LINE: usize = 17700;
 // The longest of the last lines.
 const LAST: usize = 32;
 
@@ -25,8 +24,15 @@ pub(crate) fn note(index: u64, a: Answer, commands: &[u8; COMMANDS], out: &[u8])
     if trace::is_plain(a) {
         return;
     }
-    let mut text = [0u8; LINE];
-    let n = trace::event(index, a, commands, buffer::part(out, 0, OUT), &mut text, 0);
+    let mut text = [0u8; TRACE_LINE];
+    let n = trace::event(
+        index,
+        a,
+        commands,
+        buffer::part(out, 0, ROOM_MAX),
+        &mut text,
+        0,
+    );
     flush(&text, n);
 }
 

@@ -6,6 +6,7 @@ use mathlib.Core.List.{List}
 use lib.Dec.{ltb}
 use lib.ListN.{length, replicate, drop}
 use Rattle.scalar.specs.Scalars.{i16, i32, signed, unsigned, Column, column, get, put}
+use Rattle.kind.specs.Kinds.{packetMax}
 use Rattle.form.specs.declared.Form.{Form}
 use Rattle.form.specs.declared.Form.the-variants as F
 use Rattle.rx.specs.declared.Rx.{Rx}
@@ -26,8 +27,11 @@ timestamp-us = column 8 8
 abbrev crc-valid : Column
 crc-valid = column 16 1
 
+abbrev pub dropped-at : ℕ
+dropped-at = 17
+
 abbrev packets-dropped : Column
-packets-dropped = column 17 2
+packets-dropped = column dropped-at 2
 
 abbrev origin : Column
 origin = column 19 1
@@ -35,15 +39,11 @@ origin = column 19 1
 abbrev pub rxSize : ℕ
 rxSize = 20
 
--- the longest packet
-abbrev pub rxMax : ℕ
-rxMax = 255
-
 -- 01, FORM: too few bytes; a packet over 255; crc_valid or origin over 1
 unfoldable pub rxForm : List ℕ → Form
 rxForm p =
     cond (ltb (length p) rxSize) F.Wrong
-    (cond (ltb (rxSize + rxMax) (length p)) F.Wrong
+    (cond (ltb (rxSize + packetMax) (length p)) F.Wrong
     (cond (ltb 1 (get crc-valid p)) F.Wrong
     (cond (ltb 1 (get origin p)) F.Wrong
     (F.Size (length p)))))

@@ -4,17 +4,17 @@ ghost use Prim.Native.Nat.{_≤_};
 ghost use lib.ListN.{length};
 ghost use Rattle.rx.specs.Rx.{rxSize, rxForm, rxOf, rxPacket, rxBytes};
 use form::Form;
+use form::YES;
+use kind::PACKET_MAX;
 
 // The bytes of an RX before its packet: P 6.9.
 pub const RX_SIZE: usize = 20;
-// The longest packet.
-const RX_MAX: usize = 255;
-// Where crc_valid and origin stand, and their highest value.
+// Where crc_valid, packets_dropped and origin stand.
 const CRC_VALID: usize = 16;
 
-const ORIGIN: usize = 19;
+pub const PACKETS_DROPPED: usize = 17;
 
-const YES: u8 = 1;
+const ORIGIN: usize = 19;
 
 // A received packet without its bytes: P 6.9.
 pub struct Rx {
@@ -34,7 +34,7 @@ pub fn rx_form(payload: &[u8]) -> Form
     if payload.len() < RX_SIZE {
         return Form::Wrong;
     }
-    if RX_SIZE + RX_MAX < payload.len() {
+    if RX_SIZE + PACKET_MAX < payload.len() {
         return Form::Wrong;
     }
     let crc_valid = payload[CRC_VALID];

@@ -1,7 +1,7 @@
 // Two of the ten events, by which a session ends: tick and disconnect. 01 "What each event does".
 ghost use mathlib.Core.Path.{_≡_};
-ghost use Rattle.control.specs.Control.{answerOf};
-ghost use Rattle.session.specs.Session.{ended, endSession, tickDone, disconnectDone};
+ghost use Rattle.control.specs.Control.{doneAt, Tells};
+ghost use Rattle.session.specs.Session.{ended, endSession, tickOut, disconnectOut};
 use control::Air;
 use control::Answer;
 use control::Device;
@@ -10,14 +10,15 @@ use control::Mode;
 use control::Order;
 use control::ROOM_MIN;
 use control::Radio;
+use control::Taken;
 use numbers::ROOM;
 
-// The highest liveness count: one tick more, the thousandth, ends the session.
-const TICKS_MAX: u16 = 999;
+// The tick that makes the liveness count this ends the session.
+const TICKS_MAX: u16 = 1000;
 
 // A millisecond. It writes nothing, and asks only for the room that an event's output must have.
 pub fn tick(d: Device, room: usize) -> Answer
-    ensures { λ r. ⌜ r ≡ answerOf 0 (tickDone room d) ⌝ }
+    ensures { λ r. ⌜ Tells (tickOut room d) r ⌝ }
 {
     if room < ROOM_MIN {
         return control::refuse(d, ROOM);
@@ -26,8 +27,8 @@ pub fn tick(d: Device, room: usize) -> Answer
     let air = d.air;
     if link.session & !control::is_stalled(air) {
         let ticks = link.ticks;
-        if TICKS_MAX <= ticks {
-            return end_session(d);
+        if TICKS_MAX - 1 <= ticks {
+            return control::take(end_session(d));
         }
         let next = Link {
             session: true,
@@ -42,14 +43,14 @@ pub fn tick(d: Device, room: usize) -> Answer
 
 // The host is gone. It writes nothing.
 pub fn disconnect(d: Device, room: usize) -> Answer
-    ensures { λ r. ⌜ r ≡ answerOf 0 (disconnectDone room d) ⌝ }
+    ensures { λ r. ⌜ Tells (disconnectOut room d) r ⌝ }
 {
     if room < ROOM_MIN {
         return control::refuse(d, ROOM);
     }
     let link = d.link;
     if link.session {
-        return end_session(d);
+        return control::take(end_session(d));
     }
     let next = Link {
         session: false,
@@ -74,8 +75,8 @@ fn ended(r: Radio) -> Radio
 }
 
 // A session's end.
-fn end_session(d: Device) -> Answer
-    ensures { λ r. ⌜ r ≡ answerOf 0 (endSession d) ⌝ }
+fn end_session(d: Device) -> Taken
+    ensures { λ r. ⌜ r ≡ doneAt 0 (endSession d) ⌝ }
 {
     let was = d.air;
     let before = was.radio;
@@ -99,7 +100,7 @@ fn end_session(d: Device) -> Answer
         inbox,
     };
     if control::is_free(radio) {
-        return control::accept(e, 0, Order::Standby);
+        return control::done(e, 0, Order::Standby);
     }
-    control::accept(e, 0, Order::Nothing)
+    control::done(e, 0, Order::Nothing)
 }

@@ -12,13 +12,13 @@ use Rattle.numbers.specs.Numbers.{TAKEN, ROOM, STALL}
 use Rattle.cobs.specs.Encoding.{encoded}
 use Rattle.scalar.specs.Scalars.{column, put}
 use Rattle.frame.specs.Body.{body}
-use Rattle.kind.specs.Kinds.{PING, GET-INFO, SET-CONFIG, TX, RX-START, RX-STOP}
+use Rattle.kind.specs.Kinds.{PING, GET-INFO, SET-CONFIG, TX, RX-START, RX-STOP, EPARAM, ELENGTH, ENOTCONFIGURED, EMODULATION, EUNKNOWN-CMD, EBUSY, ERADIO, EFRAME, TRANSMITTED, CHANNEL-BUSY, CANCELLED}
 use Rattle.modulation.specs.Fsk.{fskOf, fskBytes}
 use Rattle.board.specs.Board.{Board, sx1262}
 use Rattle.board.specs.Params.{fskGood}
 use Rattle.device.specs.State.{Packet, State, powerUp, link, inbox, deaf, open#}
 use Rattle.device.specs.State.{Event, byte, tick, clear, busy, sent, configured, fault, packet, request, disconnect, Input, Order, nothing, standby, configure, transmit, receive}
-use Rattle.device.specs.Messages.{Message, ok, okInfo, okConfigured, err, txDone, wire, wires, EPARAM, ELENGTH, ENOTCONFIGURED, EMODULATION, EUNKNOWN-CMD, EBUSY, ERADIO, EFRAME, TRANSMITTED, CHANNEL-BUSY, CANCELLED}
+use Rattle.device.specs.Messages.{Message, ok, okInfo, okConfigured, err, txDone, wire, wires}
 use Rattle.device.specs.Frames.{objection, settingOf}
 use Rattle.device.specs.Events.{refused, step, Reply}
 use Rattle.device.specs.Demands.{defined, history, answer}

@@ -10,14 +10,14 @@ use Rattle.cobs.specs.Decoding.{decoded}
 use Rattle.cobs.specs.Answers.{encodedMax, decodeAnswer}
 use Rattle.cobs.specs.declared.Decoded.the-variants as D
 use Rattle.frame.specs.Body.{body, frame}
-use Rattle.kind.specs.Kinds.{PING}
+use Rattle.kind.specs.Kinds.{PING, CANCELLED}
 use Rattle.modulation.specs.declared.Lora.{Lora}
 use Rattle.modulation.specs.declared.Modulation.the-variants as M
 use Rattle.rx.specs.Rx.{rxOf}
 use Rattle.board.specs.Board.{sx1262}
 use Rattle.board.specs.Ldro.{ldro}
 use Rattle.device.specs.State.{configured, Input}
-use Rattle.device.specs.Messages.{ok, txDone, CANCELLED, wire}
+use Rattle.device.specs.Messages.{ok, txDone, wire}
 use Rattle.device.specs.Demands.{defined, history}
 use Rattle.device.specs.Scripts.{lent, bytesIn}
 

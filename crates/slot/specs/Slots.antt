@@ -5,18 +5,32 @@
 use Prim.Native.Nat.{ℕ, _+_, _-_, _*_}
 use mathlib.Core.List.{List, _∷_, _++_}
 use lib.ListN.{length, take, drop, getD}
+use Rattle.kind.specs.Kinds.{packetMax}
 use Rattle.scalar.specs.Scalars.{le, column, get}
+use Rattle.command.specs.Commands.{flagsSize}
+use Rattle.board.specs.Board.{txMax}
 use Rattle.buffer.specs.Lay.{lay}
 
-abbrev pub slotSize : ℕ
-slotSize = 259
+-- the longest payload that is kept, a TX's: its flags and a packet
+abbrev pub keptMax : ℕ
+keptMax = flagsSize + packetMax
 
--- the slot of the SET_CONFIG
+-- where the tag and the payload stand in a slot
+abbrev pub tag-at : ℕ
+tag-at = 1
+
+abbrev pub payload-at : ℕ
+payload-at = 3
+
+abbrev pub slotSize : ℕ
+slotSize = payload-at + keptMax
+
+-- the slot of the SET_CONFIG, after those of the TX
 abbrev pub setting : ℕ
-setting = 16
+setting = txMax
 
 abbrev pub commandsSize : ℕ
-commandsSize = 4403
+commandsSize = (setting + 1) * slotSize
 
 -- a command with the tag t and the payload p
 abbrev pub slotBytes : ℕ → List ℕ → List ℕ
@@ -31,10 +45,10 @@ abbrev pub lenAt : List ℕ → ℕ → ℕ
 lenAt m k = getD m (k * slotSize) 0
 
 abbrev pub tagAt : List ℕ → ℕ → ℕ
-tagAt m k = get (column (k * slotSize + 1) 2) m
+tagAt m k = get (column (k * slotSize + tag-at) 2) m
 
 abbrev pub headAt : List ℕ → ℕ → ℕ
-headAt m k = getD m (k * slotSize + 3) 0
+headAt m k = getD m (k * slotSize + payload-at) 0
 
 abbrev pub payloadAt : List ℕ → ℕ → List ℕ
-payloadAt m k = take (lenAt m k + 1) (drop (k * slotSize + 3) m)
+payloadAt m k = take (lenAt m k + 1) (drop (k * slotSize + payload-at) m)

@@ -4,18 +4,23 @@ ghost use mathlib.Core.Path.{_≡_};
 ghost use Prim.Native.Nat.{_+_, _≤_, _<_};
 ghost use lib.ListN.{length, getD, replicate};
 ghost use Rattle.buffer.specs.Lay.{lay};
-ghost use Rattle.slot.specs.Slots.{commandsSize, slotBytes, kept};
+ghost use Rattle.slot.specs.Slots.{keptMax, payload-at, setting, commandsSize, slotBytes, kept};
+use board::TX_MAX;
+use command::FLAGS_SIZE;
+use kind::PACKET_MAX;
 
-// A slot: the payload's length less one, the tag, and the payload of up to 256 bytes.
-pub const SLOT_SIZE: usize = 259;
-// Where the tag stands in it, and the payload.
-pub const TAG: usize = 1;
+// The longest payload that is kept, a TX's: its flags and a packet.
+pub const KEPT_MAX: usize = FLAGS_SIZE + PACKET_MAX;
+// Where the tag and the payload stand in a slot, after the payload's length less one.
+pub const TAG_AT: usize = 1;
 
-pub const PAYLOAD: usize = 3;
+pub const PAYLOAD_AT: usize = 3;
+
+pub const SLOT_SIZE: usize = PAYLOAD_AT + KEPT_MAX;
 // The slot of the SET_CONFIG, after those of the TX.
-pub const SETTING: usize = 16;
+pub const SETTING: usize = TX_MAX;
 // The memory of commands: seventeen slots.
-pub const COMMANDS: usize = 4403;
+pub const COMMANDS: usize = (SETTING + 1) * SLOT_SIZE;
 
 // The memory of commands at power-up.
 pub fn empty_commands() -> [u8; COMMANDS]
@@ -26,8 +31,8 @@ pub fn empty_commands() -> [u8; COMMANDS]
 
 // Puts a command into a slot.
 pub fn keep(slot: usize, tag: u16, payload: &[u8], commands: &mut [u8; COMMANDS])
-    requires { ⌜ slot ≤ 16 ⌝ }
-    requires { ⌜ (1 ≤ length (now payload)) × (length (now payload) ≤ 256) ⌝ }
+    requires { ⌜ slot ≤ setting ⌝ }
+    requires { ⌜ (1 ≤ length (now payload)) × (length (now payload) ≤ keptMax) ⌝ }
     ensures { λ _. ⌜ now (commands .exit) ≡ kept (now (commands .entry)) slot tag (now (payload .entry)) ⌝ }
 {
     put(slot * SLOT_SIZE, tag, payload, commands);
@@ -35,14 +40,14 @@ pub fn keep(slot: usize, tag: u16, payload: &[u8], commands: &mut [u8; COMMANDS]
 
 // Writes a command to memory, from index at on.
 fn put(at: usize, tag: u16, payload: &[u8], memory: &mut [u8])
-    requires { ⌜ at + (3 + length (now payload)) ≤ length (now memory) ⌝ }
-    requires { ⌜ (1 ≤ length (now payload)) × (length (now payload) ≤ 256) ⌝ }
+    requires { ⌜ at + (payload-at + length (now payload)) ≤ length (now memory) ⌝ }
+    requires { ⌜ (1 ≤ length (now payload)) × (length (now payload) ≤ keptMax) ⌝ }
     ensures { λ _. ⌜ now (memory .exit) ≡ lay at (slotBytes tag (now (payload .entry))) (now (memory .entry)) ⌝ }
 {
     let t = scalar::bytes_of_u16(tag);
     memory[at] = (payload.len() - 1) as u8;
-    buffer::copy(&t, memory, at + TAG);
-    buffer::copy(payload, memory, at + PAYLOAD);
+    buffer::copy(&t, memory, at + TAG_AT);
+    buffer::copy(payload, memory, at + PAYLOAD_AT);
 }
 
 // The length that stands at an index.

@@ -4,13 +4,12 @@
 use crate::item;
 use crate::item::Item;
 use crate::side;
-use crate::side::FRAME_MAX;
 use crate::table;
 use crate::text;
+use cobs::FULL;
 use command::Command;
+use frame::FRAME_MAX;
 
-// A frame of more bytes is printed by its ends: those of a full group, without its code byte.
-const GROUP: usize = 254;
 // The TX of C.3.2, what each takes on the wire and in P's text, and the tag of the first. The packets
 // are A, B and C.
 const BATCH: usize = 3;
@@ -31,7 +30,7 @@ pub(crate) struct Score {
 // Takes a line.
 pub(crate) fn line(s: Score, line: &[u8]) -> Score {
     let mut memory = [0u8; FRAME_MAX];
-    let n = table::put(table::column(line, table::BYTES), &mut memory);
+    let n = table::put(table::column(line, table::BYTES_COLUMN), &mut memory);
     let bytes = buffer::part(&memory, 0, n);
     match table::kind(line) {
         b'c' | b'a' | b'w' => framed(s, line, bytes),
@@ -48,8 +47,8 @@ fn framed(s: Score, line: &[u8], bytes: &[u8]) -> Score {
     let mut memory = [0u8; FRAME_MAX];
     let len = side::write(item, tag, bytes, &mut memory);
     let frame = buffer::part(&memory, 0, len);
-    let is_frame = text::shows(table::column(line, table::FRAME), frame);
-    let is_body = is_body(item, tag, bytes, table::column(line, table::BODY));
+    let is_frame = text::shows(table::column(line, table::FRAME_COLUMN), frame);
+    let is_body = is_body(item, tag, bytes, table::column(line, table::BODY_COLUMN));
     let is_read = side::is_read(item, tag, bytes, run(frame));
     print_line(line, frame);
     print_verdicts(is_frame, is_body, is_read);
@@ -88,7 +87,7 @@ fn unwritten(s: Score, line: &[u8], bytes: &[u8]) -> Score {
     let c = item::command(table::fields(line));
     let got = side::command_number(c, table::tag(line), bytes);
     print_head(line);
-    let number = table::number(table::column(line, table::BODY));
+    let number = table::number(table::column(line, table::BODY_COLUMN));
     print_refusal(b" from its fields: writer", got, number);
     io::write_all(1, b"\n");
     s
@@ -96,8 +95,8 @@ fn unwritten(s: Score, line: &[u8], bytes: &[u8]) -> Score {
 
 // C.3.2: three TX in a single transport write, one after the other.
 fn batch(s: Score, line: &[u8]) -> Score {
-    let shown = table::column(line, table::FRAME);
-    io::write_all(1, table::column(line, table::LABEL));
+    let shown = table::column(line, table::FRAME_COLUMN);
+    io::write_all(1, table::column(line, table::LABEL_COLUMN));
     let mut is_same = true;
     let mut is_read = true;
     let mut i = 0;
@@ -125,15 +124,15 @@ fn print_batch(is_same: bool, is_read: bool) {
 
 // The start of a line: the example with its message, and the tag.
 fn print_head(line: &[u8]) {
-    io::write_all(1, table::column(line, table::LABEL));
+    io::write_all(1, table::column(line, table::LABEL_COLUMN));
     io::write_all(1, b" ");
-    io::write_all(1, table::column(line, table::TAG));
+    io::write_all(1, table::column(line, table::TAG_COLUMN));
 }
 
-// The line of a frame, up to its bytes.
+// The line of a frame, up to its bytes; one that is longer than a full group by its ends.
 fn print_line(line: &[u8], frame: &[u8]) {
     print_head(line);
-    if GROUP < frame.len() {
+    if FULL < frame.len() {
         print_ends(frame);
         return;
     }
@@ -151,7 +150,7 @@ fn print_verdicts(is_frame: bool, is_body: bool, is_read: bool) {
 fn print_ends(frame: &[u8]) {
     text::print(buffer::part(frame, 0, 8));
     io::write_all(1, b" ..");
-    text::print(buffer::from(frame, GROUP));
+    text::print(buffer::from(frame, FULL));
     io::write_all(1, b", ");
     io::print_decimal(1, frame.len() as u64);
     io::write_all(1, b" bytes,");

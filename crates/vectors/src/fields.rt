@@ -1,14 +1,12 @@
 // Whether two messages have the same fields, and a payload the same bytes of variable length.
 use answer::Answer;
+use answer::CONFIGURED_SIZE;
 use answer::Configured;
 use command::Command;
 use info::Info;
 use modulation::Lora;
 use modulation::Modulation;
 use rx::Rx;
-
-// The bytes of an OK to SET_CONFIG before the configuration: P 6.3.
-const CONFIGURED_SIZE: usize = 2;
 
 // Whether two commands are the same.
 pub(crate) fn same_command(a: Command, b: Command) -> bool {

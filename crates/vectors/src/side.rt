@@ -5,15 +5,13 @@ use answer::Answer;
 use answer::Answered;
 use command::Asked;
 use command::Command;
+use frame::FRAME_MAX;
 use frame::Opened;
 use frame::PAYLOAD;
 use frame::Written;
 use kind::Name;
 use numbers::TAKEN;
 use verdict::Kinds;
-
-// The longest frame: 282 bytes and the zero.
-pub(crate) const FRAME_MAX: usize = 283;
 
 // How many bytes were written: none where the writer refused.
 fn written(w: Written) -> usize {
@@ -71,11 +69,20 @@ pub(crate) fn is_read(item: Item, tag: u16, bytes: &[u8], run: &[u8]) -> bool {
 // Whether the device reads this command.
 fn is_command(c: Command, tag: u16, bytes: &[u8], run: &[u8]) -> bool {
     let mut memory = [0u8; FRAME_MAX];
-    let opened = reader::receive(Kinds::Commands, run, &mut memory);
-    let Opened::Body { kind, tag: t, len } = opened else {
+    let mut number = 0;
+    let mut kind = 0;
+    let mut t = 0;
+    let payload = reader::read(
+        Kinds::Commands,
+        run,
+        &mut memory,
+        &mut number,
+        &mut kind,
+        &mut t,
+    );
+    if number != TAKEN {
         return false;
-    };
-    let payload = buffer::part(&memory, PAYLOAD, len);
+    }
     let Asked::Command(d) = command::read_command(kind, payload) else {
         return false;
     };
@@ -85,11 +92,20 @@ fn is_command(c: Command, tag: u16, bytes: &[u8], run: &[u8]) -> bool {
 // Whether the host reads this answer.
 fn is_answer(a: Answer, name: Name, tag: u16, bytes: &[u8], run: &[u8]) -> bool {
     let mut memory = [0u8; FRAME_MAX];
-    let opened = reader::receive(Kinds::Answers(name), run, &mut memory);
-    let Opened::Body { kind, tag: t, len } = opened else {
+    let mut number = 0;
+    let mut kind = 0;
+    let mut t = 0;
+    let payload = reader::read(
+        Kinds::Answers(name),
+        run,
+        &mut memory,
+        &mut number,
+        &mut kind,
+        &mut t,
+    );
+    if number != TAKEN {
         return false;
-    };
-    let payload = buffer::part(&memory, PAYLOAD, len);
+    }
     let Answered::Answer(d) = answer::read_answer(kind, name, payload) else {
         return false;
     };
@@ -115,14 +131,18 @@ fn is_wrong(kind: u8, tag: u16, payload: &[u8], run: &[u8]) -> bool {
 // The number that the reader of commands answers.
 pub(crate) fn read_number(run: &[u8]) -> u8 {
     let mut memory = [0u8; FRAME_MAX];
-    match reader::receive(Kinds::Commands, run, &mut memory) {
-        Opened::Body {
-            kind: _,
-            tag: _,
-            len: _,
-        } => TAKEN,
-        Opened::Refused(r) => numbers::refusal_number(r),
-    }
+    let mut number = 0;
+    let mut kind = 0;
+    let mut tag = 0;
+    reader::read(
+        Kinds::Commands,
+        run,
+        &mut memory,
+        &mut number,
+        &mut kind,
+        &mut tag,
+    );
+    number
 }
 
 // The number that the writer of commands answers to a type and a payload.

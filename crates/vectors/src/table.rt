@@ -3,22 +3,22 @@ ghost use Prim.Native.Nat.{_≤_};
 ghost use lib.ListN.{length};
 
 // The columns, after what kind of line it is.
-pub(crate) const LABEL: usize = 1;
+pub(crate) const LABEL_COLUMN: usize = 1;
 
-pub(crate) const TAG: usize = 2;
+pub(crate) const TAG_COLUMN: usize = 2;
 
-const FIELDS: usize = 3;
+const FIELDS_COLUMN: usize = 3;
 
-pub(crate) const BYTES: usize = 4;
+pub(crate) const BYTES_COLUMN: usize = 4;
 
-pub(crate) const BODY: usize = 5;
+pub(crate) const BODY_COLUMN: usize = 5;
 
-pub(crate) const FRAME: usize = 6;
+pub(crate) const FRAME_COLUMN: usize = 6;
 
 // The most fields that a line has: those of the OK to GET_INFO, after two types.
 pub(crate) const FIELDS_MAX: usize = 20;
 // A number of more digits loses the first.
-const ROOM: u64 = 1000000000000000000;
+const DIGITS: u64 = 1000000000000000000;
 
 // The first index of b in s, from an index on; the end where there is none.
 pub(crate) fn find(s: &[u8], from: usize, b: u8) -> usize
@@ -82,7 +82,7 @@ pub(crate) fn number(digits: &[u8]) -> u64 {
     while i < digits.len() {
         let b = digits[i];
         i += 1;
-        n = n % ROOM * 10 + value(b) as u64 % 10;
+        n = n % DIGITS * 10 + value(b) as u64 % 10;
     }
     if kind(digits) == b'-' {
         return std::num::wrapping_sub_u64(0, n);
@@ -92,7 +92,7 @@ pub(crate) fn number(digits: &[u8]) -> u64 {
 
 // The numbers of a line.
 pub(crate) fn fields(line: &[u8]) -> [u64; FIELDS_MAX] {
-    let numbers = column(line, FIELDS);
+    let numbers = column(line, FIELDS_COLUMN);
     let mut f = [0u64; FIELDS_MAX];
     let mut i = 0;
     while i < FIELDS_MAX {
@@ -121,7 +121,7 @@ pub(crate) fn put(shown: &[u8], memory: &mut [u8]) -> usize {
 
 pub(crate) fn tag(line: &[u8]) -> u16 {
     let mut bytes = [0u8; 2];
-    put(column(line, TAG), &mut bytes);
+    put(column(line, TAG_COLUMN), &mut bytes);
     pair(bytes[0], bytes[1])
 }
 

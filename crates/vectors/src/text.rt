@@ -1,6 +1,6 @@
 // Bytes as P prints them: two digits each, with a blank between.
-use crate::side::FRAME_MAX;
 use crate::table;
+use frame::FRAME_MAX;
 
 // Whether P's text shows these bytes.
 pub(crate) fn shows(text: &[u8], bytes: &[u8]) -> bool {

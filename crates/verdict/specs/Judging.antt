@@ -5,6 +5,8 @@ use mathlib.Core.Bool.{Bool, cond}
 use mathlib.Core.List.{List}
 use lib.Dec.{eqb}
 use lib.ListN.{length}
+use Rattle.numbers.specs.Numbers.{TAKEN}
+use Rattle.numbers.specs.Refusals.{refusalNumber}
 use Rattle.numbers.specs.declared.Refusal.the-variants as R
 use Rattle.form.specs.Forms.{exactly, atLeast}
 use Rattle.form.specs.declared.Form.{Form}
@@ -49,3 +51,8 @@ judge kinds kind tag fits =
     (cond (has kinds kind)
     (cond fits J.Good (J.Refused R.Form))
     (J.Refused R.Type))
+
+-- its number
+abbrev pub judgedNumber : Judged → ℕ
+judgedNumber J.Good = TAKEN
+judgedNumber (J.Refused r) = refusalNumber r

@@ -1,6 +1,6 @@
 // The verdict on a message: 01 "Numbers that come back", 8 to 10.
 ghost use mathlib.Core.Path.{_≡_};
-ghost use Rattle.verdict.specs.Judging.{has, formOf, fitsRead, fitsWritten, judge};
+ghost use Rattle.verdict.specs.Judging.{has, formOf, fitsRead, fitsWritten, judge, judgedNumber};
 use form::Form;
 use kind::Name;
 use numbers::Refusal;
@@ -24,7 +24,7 @@ pub enum Judged {
 
 // The verdict on a message whose payload fits or not: TAG, TYPE, FORM.
 pub fn judge(kinds: Kinds, kind: u8, tag: u16, fits: bool) -> Judged
-    ensures { λ r. ⌜ r ≡ judge kinds kind tag fits ⌝ }
+    ensures { λ r. ⌜ judgedNumber r ≡ judgedNumber (judge kinds kind tag fits) ⌝ }
 {
     if kind::tag_wrong(kind, tag) {
         return Judged::Refused(Refusal::Tag);

@@ -15,10 +15,11 @@ use Rattle.cobs.specs.Encoding.{worst}
 use Rattle.cobs.specs.Answers.{bodyMax}
 use Rattle.scalar.specs.Scalars.{le}
 use Rattle.frame.specs.Body.{body, overhead, payloadMax}
-use Rattle.frame.specs.Writing.{frameAnswer, frameLeft}
+use Rattle.frame.specs.Writing.{writtenSays, frameAnswer, frameLeft}
 use Rattle.frame.specs.declared.Written.{Written}
 use Rattle.frame.specs.declared.Written.the-variants as W
 use Rattle.frame.proofs.Laws.{length-body}
+use Rattle.frame.proofs.Same.{written-same}
 use Rattle.frame.proofs.Stream.{length-frame}
 use Rattle.answer.specs.Answers.{answerBytes, txDoneBytes}
 use Rattle.device.specs.Messages.{Message, Frame, frame, seen, ok, err, txDone, wire, wires}
@@ -125,13 +126,16 @@ module _ (k t : ℕ) (p : List ℕ) (at : ℕ) (d : List ℕ) (small : length p 
       let g = le-ltb (length part) (worst (length b) + 1) (omega arith) in
       (simp (e, f, g), simp (e, f, g))
 
-  module _ {w : Written} (answer : w ≡ frameAnswer (body k t p) (length part)) where
+  module _ {w : Written} (said : writtenSays w ≡ writtenSays (frameAnswer (body k t p) (length part))) where
+    answer : w ≡ frameAnswer (body k t p) (length part)
+    answer = written-same w (frameAnswer (body k t p) (length part)) said
+
     pub not-refused : {r : _} → w ≡ W.Refused r → ⊥
-    not-refused e = let z : _≡_ {A = ℕ} 0 1 = cc (taken .0) in omega arith
+    not-refused e = let z : _≡_ {A = ℕ} 0 1 = cc (answer, taken .0) in omega arith
 
     -- so many bytes
     pub long : {n : ℕ} → w ≡ W.Done n → n ≡ length bytes
-    long e = cc (taken .0)
+    long e = cc (answer, taken .0)
 
     pub says : {n : ℕ} → w ≡ W.Done n → {m : List ℕ} → m ≡ frameLeft (body k t p) part → Says (frame k t p) d at (at + n) (take at d ++ (m ++ past))
     says e l = record { ends = ap (λ (i : ℕ). at + i) (long e); lays = rw (l, taken .1) lay-part }

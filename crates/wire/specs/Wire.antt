@@ -18,6 +18,16 @@ unfoldable pub sends : List Frame → List ℕ
 sends [] = []
 sends (f ∷ fs) = bytesOf f ++ sends fs
 
+-- the room that an OK without a payload, an ERR and a TX_DONE ask for: the worst case of 5, 7 and 10 bytes of body, and the zero
+abbrev pub ok-room : ℕ
+ok-room = 7
+
+abbrev pub err-room : ℕ
+err-room = 9
+
+abbrev pub done-room : ℕ
+done-room = 12
+
 -- f stands in the output o' from index `at` on and ends at r; the rest of it is as it was in o
 pub record Says (f : Frame) (o : List ℕ) (at r : ℕ) (o' : List ℕ) : Type 0 where
   pub ends : r ≡ at + length (bytesOf f)

@@ -5,7 +5,7 @@ ghost use lib.ListN.{length};
 ghost use Rattle.cobs.specs.Encoding.{worst};
 ghost use Rattle.frame.specs.Body.{overhead, payloadMax};
 ghost use Rattle.device.specs.Messages.{frame, seen, ok, err, txDone};
-ghost use Rattle.wire.specs.Wire.{Says};
+ghost use Rattle.wire.specs.Wire.{ok-room, err-room, done-room, Says};
 use frame::Written;
 use kind::ERR;
 use kind::OK;
@@ -25,7 +25,7 @@ pub fn say(kind: u8, tag: u16, payload: &[u8], out: &mut [u8], at: usize) -> usi
 
 // OK without a payload: P 6.7.
 pub fn say_ok(tag: u16, out: &mut [u8], at: usize) -> usize
-    requires { ⌜ at + 7 ≤ length (now out) ⌝ }
+    requires { ⌜ at + ok-room ≤ length (now out) ⌝ }
     ensures { λ r. ⌜ Says (seen (ok tag)) (now (out .entry)) at r (now (out .exit)) ⌝ }
 {
     say(OK, tag, &[], out, at)
@@ -33,7 +33,7 @@ pub fn say_ok(tag: u16, out: &mut [u8], at: usize) -> usize
 
 // ERR: P 6.8.
 pub fn say_err(code: u16, tag: u16, out: &mut [u8], at: usize) -> usize
-    requires { ⌜ at + 9 ≤ length (now out) ⌝ }
+    requires { ⌜ at + err-room ≤ length (now out) ⌝ }
     ensures { λ r. ⌜ Says (seen (err code tag)) (now (out .entry)) at r (now (out .exit)) ⌝ }
 {
     let payload = scalar::bytes_of_u16(code);
@@ -42,7 +42,7 @@ pub fn say_err(code: u16, tag: u16, out: &mut [u8], at: usize) -> usize
 
 // TX_DONE: P 6.10.
 pub fn say_done(result: u8, airtime: u32, tag: u16, out: &mut [u8], at: usize) -> usize
-    requires { ⌜ at + 12 ≤ length (now out) ⌝ }
+    requires { ⌜ at + done-room ≤ length (now out) ⌝ }
     ensures { λ r. ⌜ Says (seen (txDone result airtime tag)) (now (out .entry)) at r (now (out .exit)) ⌝ }
 {
     let payload = payload::tx_done_bytes(result, airtime);

@@ -21,9 +21,9 @@ use Rattle.control.specs.declared.Device.{Device}
 use Rattle.control.specs.declared.Order.{Order}
 use Rattle.control.specs.declared.Order.the-variants.{Nothing, Standby, Configure, Transmit, Receive}
 use Rattle.control.specs.declared.Answer.{Answer}
-use Rattle.control.specs.Control.{powerUp}
+use Rattle.control.specs.Control.{powerUp, orderNumber, orderValues, answerNumbers}
 use Rattle.control.proofs.Order.{the-type}
-use Rattle.words.specs.Words.{modeNumber, modeIn, odd, linkWord, linkIn, radioNumber, radioTag, radioIn, airWord, airIn, inboxWord, inboxIn, controlWords, deviceIn, orderNumber, orderValues, answerWords, orderFrom}
+use Rattle.words.specs.Words.{modeNumber, modeIn, odd, linkWord, linkIn, radioNumber, radioTag, radioIn, airWord, airIn, inboxWord, inboxIn, controlWords, deviceIn, orderFrom}
 use Rattle.words.specs.Ranges.{DeviceIn}
 
 -- ---- bounds
@@ -143,6 +143,6 @@ told n w (Configure at len ldro) = ap (Configure at len) (yes-back ldro)
 told n w (Transmit at len listen) = ap (Transmit at len) (yes-back listen)
 told n w Receive = refl
 
-pub order-back : (a : Answer) → orderFrom (answerWords a) ≡ a .order
-unfolding answerWords
+pub order-back : (a : Answer) → orderFrom (answerNumbers a) ≡ a .order
+unfolding answerNumbers
 order-back a = told (a .number) (a .written) (a .order)

@@ -2,8 +2,8 @@
 -- Every list of words stands for a state. Of a number as many low bits count as its type has, and a mode or a radio past the last is the last. Four zeros are the
 -- state at power-up.
 -- Assumes nothing.
-use Prim.Native.Nat.{ℕ, _+_, _*_, _/_, _%_, _<_}
-use mathlib.Core.Bool.{Bool, true, false, cond}
+use Prim.Native.Nat.{ℕ, _+_, _*_, _/_, _%_}
+use mathlib.Core.Bool.{Bool, cond}
 use mathlib.Core.List.{List, [], _∷_}
 use lib.Dec.{eqb, ltb}
 use lib.ListN.{getD}
@@ -18,7 +18,6 @@ use Rattle.control.specs.declared.Inbox.{Inbox}
 use Rattle.control.specs.declared.Device.{Device}
 use Rattle.control.specs.declared.Order.{Order}
 use Rattle.control.specs.declared.Order.the-variants.{Nothing, Standby, Configure, Transmit, Receive}
-use Rattle.control.specs.declared.Answer.{Answer}
 use Rattle.control.specs.Control.{link, air, inbox, device}
 
 -- ---- the state: a word for the mode, the link, the radio's side and reception
@@ -86,28 +85,9 @@ controlWords d = modeNumber (d .mode) ∷ linkWord (d .link) ∷ airWord (d .air
 unfoldable pub deviceIn : List ℕ → Device
 deviceIn w = device (modeIn (getD w 0 0)) (linkIn (getD w 1 0)) (airIn (getD w 2 0)) (inboxIn (getD w 3 0))
 
--- ---- the answer
+-- ---- the answer: its words are its numbers (crate control, `answerNumbers`)
 
-abbrev pub orderNumber : Order → ℕ
-orderNumber Nothing = 0
-orderNumber Standby = 1
-orderNumber (Configure at n ldro) = 2
-orderNumber (Transmit at n listen) = 3
-orderNumber Receive = 4
-
--- an order's values: where its bytes stand in the memory of commands, how many they are, LDRO, and whether the radio listens first
-abbrev pub orderValues : Order → List ℕ
-orderValues Nothing = 0 ∷ 0 ∷ 0 ∷ 0 ∷ []
-orderValues Standby = 0 ∷ 0 ∷ 0 ∷ 0 ∷ []
-orderValues (Configure at n ldro) = at ∷ n ∷ yes ldro ∷ 0 ∷ []
-orderValues (Transmit at n listen) = at ∷ n ∷ 0 ∷ yes listen ∷ []
-orderValues Receive = 0 ∷ 0 ∷ 0 ∷ 0 ∷ []
-
--- the number, the count of bytes written, the order and its values
-unfoldable pub answerWords : Answer → List ℕ
-answerWords a = a .number ∷ a .written ∷ orderNumber (a .order) ∷ orderValues (a .order)
-
--- the order that an answer's words tell
+-- the order that they tell
 unfoldable pub orderFrom : List ℕ → Order
 orderFrom w =
     let k = getD w 2 0 in

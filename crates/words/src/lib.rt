@@ -2,7 +2,8 @@
 ghost use mathlib.Core.Path.{_≡_};
 ghost use Prim.Native.Nat.{_%_};
 ghost use Rattle.device.specs.Messages.{yes};
-ghost use Rattle.words.specs.Words.{modeNumber, modeIn, radioNumber, radioTag, radioIn, odd, linkWord, linkIn, airWord, airIn, inboxWord, inboxIn, controlWords, deviceIn, orderNumber, answerWords};
+ghost use Rattle.control.specs.Control.{orderNumber, answerNumbers};
+ghost use Rattle.words.specs.Words.{modeNumber, modeIn, radioNumber, radioTag, radioIn, odd, linkWord, linkIn, airWord, airIn, inboxWord, inboxIn, controlWords, deviceIn};
 use control::Air;
 use control::Answer;
 use control::Device;
@@ -238,7 +239,7 @@ fn order_number(o: Order) -> u64
 // An answer as words: its number, the count of bytes written, and the order with its values. The
 // state in it has words of its own.
 fn answer_words(a: Answer) -> [u64; ANSWER]
-    ensures { λ r. ⌜ r ≡ answerWords a ⌝ }
+    ensures { λ r. ⌜ r ≡ answerNumbers a ⌝ }
 {
     let number = a.number as u64;
     let written = a.written as u64;
@@ -264,7 +265,7 @@ fn answer_words(a: Answer) -> [u64; ANSWER]
 // Stores an answer, and the state in it.
 pub fn tell(a: Answer, control: &mut [u64; CONTROL], answer: &mut [u64; ANSWER])
     ensures { λ _. ⌜ now (control .exit) ≡ controlWords (a .device) ⌝ }
-    ensures { λ _. ⌜ now (answer .exit) ≡ answerWords a ⌝ }
+    ensures { λ _. ⌜ now (answer .exit) ≡ answerNumbers a ⌝ }
 {
     let d = a.device;
     *control = control_words(d);

@@ -1,8 +1,9 @@
 -- Each answer is where the chain of tests in its definition ends.
 -- Assumes nothing.
 use mathlib.Core.Path.{sym, ap, _∙_}
+use Rattle.numbers.specs.Came.{took}
 use Rattle.answer.specs.Answers.{readAnswer}
-use Rattle.answer.specs.declared.Answered.the-variants as D
+use Rattle.answer.specs.declared.Answer.{Answer}
 use borrow.Author.Needs.{needs}
 use Rattle.answer.proofs.read_answer.Statement.{statement}
 use Rattle.answer.proofs.read_answer.Tie as tie
@@ -23,7 +24,8 @@ returns : tie.Need-returns
 unfolding readAnswer
 returns c =
     let e = sym (rw (c .before .before .before .answer-form .ensures) at (c .before .before .at-least .ensures)) ∙ c .before .if2 .taken in
-    rw (sym (c .before .before .before .before .before .is-answer .ensures) ∙ c .before .before .before .before .if1 .taken, e) (ap D.Answer (c .answer-of .ensures))
+    let t = sym (c .before .before .before .before .before .is-answer .ensures) ∙ c .before .before .before .before .if1 .taken in
+    rw (t, e) (ap (λ (m : Answer). took m) (c .answer-of .ensures))
 
 returns-2 : tie.Need-returns-2
 unfolding readAnswer

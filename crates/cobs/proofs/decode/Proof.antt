@@ -1,9 +1,10 @@
 -- Each answer is where the chain of tests in its definition ends.
 -- Assumes nothing.
 use mathlib.Core.Path.{sym, ap, _∙_}
+use Prim.Native.Nat.{ℕ}
 use borrow.Author.Tests.{lt-ltb, le-ltb}
+use Rattle.numbers.specs.Came.{took}
 use Rattle.cobs.specs.Answers.{decodeAnswer, decodeLeft}
-use Rattle.cobs.specs.declared.Decoded.the-variants as D
 use borrow.Author.Needs.{needs}
 use Rattle.cobs.proofs.decode.Statement.{statement}
 use Rattle.cobs.proofs.decode.Tie as tie
@@ -44,7 +45,7 @@ returns-4 c =
     let e = le-ltb _ _ (c .before .before .before .before .before .before .before .if1 .left) in
     let f = le-ltb _ _ (c .before .before .before .before .before .before .if2 .left) in
     let g = sym (c .before .before .before .before .before .is-broken .ensures) ∙ c .before .before .before .before .if3 .left in
-    (simp (e, f, g) (ap D.Done (c .before .before .decode-into .ensures .0)), simp (e, f, g) (c .before .before .decode-into .ensures .1))
+    (simp (e, f, g) (ap (λ (n : ℕ). took n) (c .before .before .decode-into .ensures .0)), simp (e, f, g) (c .before .before .decode-into .ensures .1))
 
 pub decode-spec : {M : Type 1} → statement M
 decode-spec =

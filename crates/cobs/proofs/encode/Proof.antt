@@ -1,9 +1,10 @@
 -- Each answer is where the chain of tests in its definition ends.
 -- Assumes nothing.
 use mathlib.Core.Path.{ap}
+use Prim.Native.Nat.{ℕ}
 use borrow.Author.Tests.{lt-ltb, le-ltb}
+use Rattle.numbers.specs.Came.{took}
 use Rattle.cobs.specs.Answers.{encodeAnswer, encodeLeft}
-use Rattle.cobs.specs.declared.Encoded.the-variants as E
 use borrow.Author.Needs.{needs}
 use Rattle.cobs.proofs.encode.Statement.{statement}
 use Rattle.cobs.proofs.encode.Tie as tie
@@ -14,8 +15,11 @@ returns c =
     let e = lt-ltb _ _ (c .if1 .taken) in
     (simp e, simp e)
 
+cast-worst : tie.Need-cast-worst
+cast-worst c = search needs
+
 worst-requires : tie.Need-worst-requires
-worst-requires c κs = c .if1 .left
+worst-requires c κs = search needs
 
 returns-2 : tie.Need-returns-2
 unfolding encodeAnswer encodeLeft
@@ -35,9 +39,9 @@ unfolding encodeAnswer encodeLeft
 returns-3 c =
     let e = le-ltb _ _ (c .before .before .before .before .before .before .if1 .left) in
     let f = le-ltb _ _ (rw (c .before .before .before .before .before .worst .ensures) at (c .before .before .before .before .if2 .left)) in
-    (simp (e, f) (ap E.Done (c .before .before .encode-into .ensures .0)), simp (e, f) (c .before .before .encode-into .ensures .1))
+    (simp (e, f) (ap (λ (n : ℕ). took n) (c .before .before .encode-into .ensures .0)), simp (e, f) (c .before .before .encode-into .ensures .1))
 
 pub encode-spec : {M : Type 1} → statement M
 encode-spec =
     tie.close
-    (tie.spec returns worst-requires returns-2 encode-into-requires same-length returns-3)
+    (tie.spec returns cast-worst worst-requires returns-2 encode-into-requires same-length returns-3)

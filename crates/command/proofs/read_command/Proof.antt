@@ -1,8 +1,9 @@
 -- Each answer is where the chain of tests in its definition ends.
 -- Assumes nothing.
 use mathlib.Core.Path.{sym, ap, _∙_}
+use Rattle.numbers.specs.Came.{took}
 use Rattle.command.specs.Commands.{readCommand}
-use Rattle.command.specs.declared.Asked.the-variants as A
+use Rattle.command.specs.declared.Command.{Command}
 use borrow.Author.Needs.{needs}
 use Rattle.command.proofs.read_command.Statement.{statement}
 use Rattle.command.proofs.read_command.Tie as tie
@@ -23,7 +24,8 @@ returns : tie.Need-returns
 unfolding readCommand
 returns c =
     let e = sym (rw (c .before .before .before .command-form .ensures) at (c .before .before .exactly .ensures)) ∙ c .before .if2 .taken in
-    rw (sym (c .before .before .before .before .before .is-command .ensures) ∙ c .before .before .before .before .if1 .taken, e) (ap A.Command (c .command-of .ensures))
+    let t = sym (c .before .before .before .before .before .is-command .ensures) ∙ c .before .before .before .before .if1 .taken in
+    rw (t, e) (ap (λ (m : Command). took m) (c .command-of .ensures))
 
 returns-2 : tie.Need-returns-2
 unfolding readCommand

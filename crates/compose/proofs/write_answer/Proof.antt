@@ -1,9 +1,10 @@
 -- Bytes that are too long for any message have no right form; else the payload is put together, and written as any payload.
 -- Assumes nothing.
-use mathlib.Core.Path.{_≡_, sym, _∙_}
+use mathlib.Core.Path.{_≡_, sym, ap, _∙_}
 use native.Mathlib.Omega.{arith}
 use lib.ListN.{take, replicate}
 use lib.Seq.{length-take-le}
+use Rattle.frame.specs.Writing.{writtenSays}
 use Rattle.frame.proofs.Laws.{take-laid}
 use Rattle.answer.specs.Answers.{answerBytes, answerKind, answerName}
 use Rattle.answer.proofs.Laws.{answer-is, answer-length, answer-long}
@@ -25,7 +26,7 @@ unfolding has formOf fitsWritten
 returns c =
     let s = c .before .before .before .before .before .args in
     let l = wrong-frame (K.Answers (answerName (s .a))) (answerKind (s .a)) (s .tag) (answerBytes (s .a) (s .bytes .now)) (s .dst .now) (answer-is (s .a)) (answer-long (s .a) (s .bytes .now) (c .before .if1 .taken)) in
-    (rw (c .before .before .answer-kind .ensures) at (c .too-long .ensures) ∙ l .0, l .1)
+    (ap writtenSays (rw (c .before .before .answer-kind .ensures) at (c .too-long .ensures) ∙ l .0), l .1)
 
 answer-name-requires : tie.Need-answer-name-requires
 answer-name-requires c κs = search needs

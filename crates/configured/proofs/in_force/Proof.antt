@@ -27,8 +27,8 @@ element-copy-out-mode-of c = search needs
 mode-of-requires : tie.Need-mode-of-requires
 mode-of-requires c κs = search needs
 
-accept-requires : tie.Need-accept-requires
-accept-requires c κs = search needs
+done-requires : tie.Need-done-requires
+done-requires c κs = search needs
 
 same-length : tie.Need-same-length
 same-length c = search needs
@@ -37,19 +37,19 @@ returns : tie.Need-returns
 returns c =
     let d = c .before .before .before .before .before .before .before .before .before .before .before .before .before .args .d in
     let m = c .before .before .before .before .before .before .before .before .before .before .before .before .before .args .commands .now in
-    gives (inForce true m d) (ap (λ (b : Bool). inForce b m d) (c .before .before .before .before .before .before .before .before .if1 .taken)) (spoken _ _ _ (sent-one (c .before .before .before .before .before .before .say-configured .ensures)) (c .accept .ensures ∙ simp (c .before .before .mode-of .ensures, c .before .before .before .before .before .before .before .before .before .before .with-radio .ensures)))
+    gives (inForce true m d) (ap (λ (b : Bool). inForce b m d) (c .before .before .before .before .before .before .before .before .if1 .taken)) (spoken _ _ (sent-one (c .before .before .before .before .before .before .say-configured .ensures)) (c .done .ensures ∙ simp (c .before .before .mode-of .ensures, c .before .before .before .before .before .before .before .before .before .before .with-radio .ensures)))
 
 with-air-requires : tie.Need-with-air-requires
 with-air-requires c κs = search needs
 
-accept-requires-2 : tie.Need-accept-requires-2
-accept-requires-2 c κs = search needs
+done-requires-2 : tie.Need-done-requires-2
+done-requires-2 c κs = search needs
 
 returns-2 : tie.Need-returns-2
 returns-2 c =
     let d = c .before .before .before .before .before .before .before .args .d in
     let m = c .before .before .before .before .before .before .before .args .commands .now in
-    gives (inForce false m d) (ap (λ (b : Bool). inForce b m d) (c .before .before .if1 .left)) (quiet _ _ _ _ 0 (rw (c .before .with-air .ensures, c .before .before .before .before .with-radio .ensures) at (c .accept2 .ensures)))
+    gives (inForce false m d) (ap (λ (b : Bool). inForce b m d) (c .before .before .if1 .left)) (quiet _ _ _ 0 (rw (c .before .with-air .ensures, c .before .before .before .before .with-radio .ensures) at (c .done2 .ensures)))
 
 pub in-force-spec : {M : Type 1} → statement M
 in-force-spec =
@@ -61,9 +61,9 @@ in-force-spec =
     add-mode-of
     element-copy-out-mode-of
     mode-of-requires
-    accept-requires
+    done-requires
     same-length
     returns
     with-air-requires
-    accept-requires-2
+    done-requires-2
     returns-2)

@@ -37,8 +37,8 @@ slice-aggregate-say c = search needs
 say-requires : tie.Need-say-requires
 say-requires c κs = search needs
 
-accept-requires : tie.Need-accept-requires
-accept-requires c κs = search needs
+done-requires : tie.Need-done-requires
+done-requires c κs = search needs
 
 same-length-3 : tie.Need-same-length-3
 same-length-3 c = search needs
@@ -46,20 +46,20 @@ same-length-3 c = search needs
 returns-3 : tie.Need-returns-3
 unfolding answerBytes
 returns-3 c =
-    gives _ (as-info _ _ _ (c .before .before .before .before .before .before .before .before .before .if1 .left) (c .before .before .before .before .before .before .before .before .if2 .left) (c .before .before .before .before .before .before .before .if3 .taken)) (spoken _ _ _ (sent-one (rw (c .before .before .before .before .before .before .info .ensures) at (c .before .before .before .say .ensures))) (c .accept .ensures))
+    gives _ (as-info _ _ _ (c .before .before .before .before .before .before .before .before .before .if1 .left) (c .before .before .before .before .before .before .before .before .if2 .left) (c .before .before .before .before .before .before .before .if3 .taken)) (spoken _ _ (sent-one (rw (c .before .before .before .before .before .before .info .ensures) at (c .before .before .before .say .ensures))) (c .done .ensures))
 
 say-ok-requires : tie.Need-say-ok-requires
 say-ok-requires c κs = search needs
 
-accept-requires-2 : tie.Need-accept-requires-2
-accept-requires-2 c κs = search needs
+done-requires-2 : tie.Need-done-requires-2
+done-requires-2 c κs = search needs
 
 same-length-4 : tie.Need-same-length-4
 same-length-4 c = search needs
 
 returns-4 : tie.Need-returns-4
 returns-4 c =
-    gives _ (as-ping _ _ _ (c .before .before .before .before .before .before .before .if1 .left) (c .before .before .before .before .before .before .if2 .left) (c .before .before .before .before .before .if3 .left)) (spoken _ _ _ (sent-one (c .before .before .before .say-ok .ensures)) (c .accept2 .ensures))
+    gives _ (as-ping _ _ _ (c .before .before .before .before .before .before .before .if1 .left) (c .before .before .before .before .before .before .if2 .left) (c .before .before .before .before .before .if3 .left)) (spoken _ _ (sent-one (c .before .before .before .say-ok .ensures)) (c .done2 .ensures))
 
 pub at-once-spec : {M : Type 1} → statement M
 at-once-spec =
@@ -74,10 +74,10 @@ at-once-spec =
     info-requires
     slice-aggregate-say
     say-requires
-    accept-requires
+    done-requires
     same-length-3
     returns-3
     say-ok-requires
-    accept-requires-2
+    done-requires-2
     same-length-4
     returns-4)

@@ -19,8 +19,8 @@ objection-requires c κs = search needs
 say-err-requires : tie.Need-say-err-requires
 say-err-requires c κs = search needs
 
-accept-requires : tie.Need-accept-requires
-accept-requires c κs = search needs
+done-requires : tie.Need-done-requires
+done-requires c κs = search needs
 
 same-length : tie.Need-same-length
 same-length c = search needs
@@ -28,7 +28,7 @@ same-length c = search needs
 returns : tie.Need-returns
 returns c =
     rules _ (as-err _ _ _ (c .before .before .before .before .before .before .before .before .is-unconfigured .ensures) (c .before .before .before .before .before .before .before .count-open .ensures) (c .before .before .before .before .before .before .objection .ensures) _ _ (c .before .before .before .before .before .if1 .taken))
-    (rules-only (spoken _ _ _ (sent-one (c .before .before .before .say-err .ensures)) (c .accept .ensures)))
+    (rules-only (spoken _ _ (sent-one (c .before .before .before .say-err .ensures)) (c .done .ensures)))
 
 tx-requires : tie.Need-tx-requires
 tx-requires c κs =
@@ -70,7 +70,7 @@ dispatch-spec =
     count-open-requires
     objection-requires
     say-err-requires
-    accept-requires
+    done-requires
     same-length
     returns
     tx-requires

@@ -21,8 +21,8 @@ changed-requires c κs = search needs
 idle-requires : tie.Need-idle-requires
 idle-requires c κs = search needs
 
-accept-requires : tie.Need-accept-requires
-accept-requires c κs = search needs
+done-requires : tie.Need-done-requires
+done-requires c κs = search needs
 
 same-length : tie.Need-same-length
 same-length c = search needs
@@ -31,10 +31,10 @@ returns : tie.Need-returns
 unfolding turned
 returns c =
     let e = rw (c .before .before .before .before .is-free .ensures, c .before .before .before .changed .ensures) at (c .before .before .if1 .taken) in
-    simp e (spoken _ _ _ (sent-one (c .before .before .before .before .before .before .before .before .say-ok .ensures)) (rw (c .before .before .before .before .before .with-inbox .ensures, c .before .idle .ensures) at (c .accept .ensures)))
+    simp e (spoken _ _ (sent-one (c .before .before .before .before .before .before .before .before .say-ok .ensures)) (rw (c .before .before .before .before .before .with-inbox .ensures, c .before .idle .ensures) at (c .done .ensures)))
 
-accept-requires-2 : tie.Need-accept-requires-2
-accept-requires-2 c κs = search needs
+done-requires-2 : tie.Need-done-requires-2
+done-requires-2 c κs = search needs
 
 same-length-2 : tie.Need-same-length-2
 same-length-2 c = search needs
@@ -43,7 +43,7 @@ returns-2 : tie.Need-returns-2
 unfolding turned
 returns-2 c =
     let e = rw (c .before .before .before .is-free .ensures, c .before .before .changed .ensures) at (c .before .if1 .left) in
-    simp e (spoken _ _ _ (sent-one (c .before .before .before .before .before .before .before .say-ok .ensures)) (rw (c .before .before .before .before .with-inbox .ensures) at (c .accept2 .ensures)))
+    simp e (spoken _ _ (sent-one (c .before .before .before .before .before .before .before .say-ok .ensures)) (rw (c .before .before .before .before .with-inbox .ensures) at (c .done2 .ensures)))
 
 pub turn-spec : {M : Type 1} → statement M
 turn-spec =
@@ -54,9 +54,9 @@ turn-spec =
     is-free-requires
     changed-requires
     idle-requires
-    accept-requires
+    done-requires
     same-length
     returns
-    accept-requires-2
+    done-requires-2
     same-length-2
     returns-2)

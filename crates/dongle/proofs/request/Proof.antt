@@ -1,8 +1,7 @@
--- The state is taken from its words, the event runs, and its answer is stored.
+-- The event's own contract, with its answer stored in words.
 -- Assumes nothing.
-use Rattle.machine.specs.Machine.{runs}
-use Rattle.dongle.specs.Calls.{called}
-use Rattle.dongle.proofs.Calls.{stored-out}
+use Rattle.dongle.specs.Calls.{requestCall}
+use Rattle.dongle.proofs.Calls.{request-left}
 use borrow.Author.Needs.{needs}
 use Rattle.dongle.proofs.request.Statement.{statement}
 use Rattle.dongle.proofs.request.Tie as tie
@@ -20,9 +19,10 @@ same-length : tie.Need-same-length
 same-length c = search needs
 
 returns : tie.Need-returns
-unfolding called runs
+unfolding requestCall
 returns c =
-    let g = rw (c .before .before .before .before .before .before .before .before .device-of .ensures) at (c .before .before .before .before .before .request .ensures) in λ run m. rw (g .packets) (stored-out (record { answers = g .gives .answers; control = c .tell .ensures .0; answer = c .tell .ensures .1 }) _ (g .gives .writes) run m _)
+    let g = rw (c .before .before .before .before .before .before .before .before .device-of .ensures) at (c .before .before .before .before .before .request .ensures) in
+    request-left (g .answers .tells) (c .tell .ensures) (g .packets) (g .answers .writes)
 
 pub request-spec : {M : Type 1} → statement M
 request-spec =

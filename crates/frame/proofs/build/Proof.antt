@@ -25,9 +25,7 @@ returns-2 c =
     (simp (e, f), simp (e, f))
 
 build-into-requires : tie.Need-build-into-requires
-build-into-requires c κs =
-    let s = c .before .before .before .before .before in
-    omega (arith, length-body (s .args .kind) (s .args .tag) (s .args .payload .now))
+build-into-requires c κs = rw length-body (omega (arith, c .before .if2 .left))
 
 add-t8 : tie.Need-add-t8
 add-t8 c = search needs

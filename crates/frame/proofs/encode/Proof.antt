@@ -22,6 +22,9 @@ returns-2 c =
     let e = lt-ltb _ _ (c .if2 .taken) in
     (simp (d, e), simp (d, e))
 
+cast-worst : tie.Need-cast-worst
+cast-worst c = search needs
+
 worst-requires : tie.Need-worst-requires
 worst-requires c κs = search needs
 
@@ -72,6 +75,7 @@ encode-spec =
     (tie.spec
     returns
     returns-2
+    cast-worst
     worst-requires
     add-if3
     returns-3

@@ -9,7 +9,7 @@ use lib.ListN.{length, take}
 use lib.Seq.{length-take-le}
 use Rattle.cobs.specs.Answers.{bodyMax}
 use Rattle.frame.specs.Body.{body, overhead}
-use Rattle.frame.specs.Writing.{frameAnswer, frameLeft}
+use Rattle.frame.specs.Writing.{frameAnswer, frameLeft, writtenSays}
 use Rattle.frame.proofs.Laws.{take-laid, length-body}
 use borrow.Author.Needs.{needs}
 use Rattle.frame.proofs.write.Statement.{statement}
@@ -59,7 +59,7 @@ returns-2 c =
     let b = body (s .args .kind) (s .args .tag) p in
     let e : take (length p + overhead) (m .last .1 .1 .1 .0) ≡ b =
     rw (m .ensures, ← length-body (s .args .kind) (s .args .tag) p) (take-laid b _) in
-    (w .0 ∙ ap (λ (x : List ℕ). frameAnswer x (length d)) e, w .1 ∙ ap (λ (x : List ℕ). frameLeft x d) e)
+    (w .0 ∙ ap (λ (x : List ℕ). writtenSays (frameAnswer x (length d))) e, w .1 ∙ ap (λ (x : List ℕ). frameLeft x d) e)
 
 pub write-spec : {M : Type 1} → statement M
 write-spec =

@@ -1,7 +1,6 @@
 -- The number and the count of the case that the match found.
 -- Assumes nothing.
-use Rattle.cobs.specs.Answers.{decodeNumber}
-use Rattle.host.specs.Written.{decodeWritten}
+use Rattle.cobs.specs.Answers.{decodedSays}
 use Rattle.host.proofs.Told.{told}
 use borrow.Author.Needs.{needs}
 use Rattle.host.proofs.cobs_decode.Statement.{statement}
@@ -28,7 +27,7 @@ same-length c = search needs
 returns : tie.Need-returns
 returns c =
     let p = c .before .before .before .before .before .decode .ensures in
-    told decodeNumber decodeWritten (c .before .n .given .1) (p .0) (p .1) _
+    told decodedSays (c .before .n .given .1) (p .0) (p .1) _
 
 same-length-2 : tie.Need-same-length-2
 same-length-2 c = search needs
@@ -36,7 +35,7 @@ same-length-2 c = search needs
 returns-2 : tie.Need-returns-2
 returns-2 c =
     let p = c .before .before .before .before .decode .ensures in
-    told decodeNumber decodeWritten (c .enum-told .given .1) (p .0) (p .1) _
+    told decodedSays (c .enum-told .given .1) (p .0) (p .1) _
 
 same-length-3 : tie.Need-same-length-3
 same-length-3 c = search needs
@@ -44,7 +43,7 @@ same-length-3 c = search needs
 returns-3 : tie.Need-returns-3
 returns-3 c =
     let p = c .before .before .before .before .decode .ensures in
-    told decodeNumber decodeWritten (c .enum-told2 .given .1) (p .0) (p .1) _
+    told decodedSays (c .enum-told2 .given .1) (p .0) (p .1) _
 
 same-length-4 : tie.Need-same-length-4
 same-length-4 c = search needs
@@ -52,7 +51,7 @@ same-length-4 c = search needs
 returns-4 : tie.Need-returns-4
 returns-4 c =
     let p = c .before .before .before .before .decode .ensures in
-    told decodeNumber decodeWritten (c .enum-told3 .given .1) (p .0) (p .1) _
+    told decodedSays (c .enum-told3 .given .1) (p .0) (p .1) _
 
 pub cobs-decode-spec : {M : Type 1} → statement M
 cobs-decode-spec =

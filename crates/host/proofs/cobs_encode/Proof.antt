@@ -1,7 +1,6 @@
 -- The number and the count of the case that the match found.
 -- Assumes nothing.
-use Rattle.cobs.specs.Answers.{encodeNumber}
-use Rattle.host.specs.Written.{encodeWritten}
+use Rattle.cobs.specs.Answers.{encodedSays}
 use Rattle.host.proofs.Told.{told}
 use borrow.Author.Needs.{needs}
 use Rattle.host.proofs.cobs_encode.Statement.{statement}
@@ -25,7 +24,7 @@ same-length c = search needs
 returns : tie.Need-returns
 returns c =
     let p = c .before .before .before .before .before .encode .ensures in
-    told encodeNumber encodeWritten (c .before .n .given .1) (p .0) (p .1) _
+    told encodedSays (c .before .n .given .1) (p .0) (p .1) _
 
 same-length-2 : tie.Need-same-length-2
 same-length-2 c = search needs
@@ -33,7 +32,7 @@ same-length-2 c = search needs
 returns-2 : tie.Need-returns-2
 returns-2 c =
     let p = c .before .before .before .before .encode .ensures in
-    told encodeNumber encodeWritten (c .enum-told .given .1) (p .0) (p .1) _
+    told encodedSays (c .enum-told .given .1) (p .0) (p .1) _
 
 same-length-3 : tie.Need-same-length-3
 same-length-3 c = search needs
@@ -41,7 +40,7 @@ same-length-3 c = search needs
 returns-3 : tie.Need-returns-3
 returns-3 c =
     let p = c .before .before .before .before .encode .ensures in
-    told encodeNumber encodeWritten (c .enum-told2 .given .1) (p .0) (p .1) _
+    told encodedSays (c .enum-told2 .given .1) (p .0) (p .1) _
 
 pub cobs-encode-spec : {M : Type 1} → statement M
 cobs-encode-spec =

@@ -1,6 +1,7 @@
 -- What was received, field by field.
 -- Assumes nothing.
-use mathlib.Core.Path.{refl, sym, _∙_}
+use mathlib.Core.Path.{sym, ap, _∙_}
+use Rattle.frame.specs.Reading.{openedSays}
 use Rattle.host.specs.Reports.{messageReport}
 use borrow.Author.Needs.{needs}
 use Rattle.host.proofs.read_answer.Statement.{statement}
@@ -27,7 +28,9 @@ same-length c = search needs
 returns : tie.Need-returns
 unfolding messageReport
 returns c =
-    let p = rw (c .before .before .before .before .before .before .before .name-of .ensures) at (c .before .before .before .before .before .receive .ensures) in let e = sym (p .0) ∙ c .before .kind .given .1 in (rw e refl, p .1)
+    let n = c .before .before .before .before .before .before .before .name-of .ensures in
+    let p = rw n at (c .before .before .before .before .before .receive .ensures) in
+    (ap messageReport (sym (ap openedSays (c .before .kind .given .1)) ∙ p .0), p .1)
 
 same-length-2 : tie.Need-same-length-2
 same-length-2 c = search needs
@@ -35,7 +38,9 @@ same-length-2 c = search needs
 returns-2 : tie.Need-returns-2
 unfolding messageReport
 returns-2 c =
-    let p = rw (c .before .before .before .before .before .before .before .before .name-of .ensures) at (c .before .before .before .before .before .before .receive .ensures) in let e = sym (p .0) ∙ c .before .before .r .given .1 in (rw (e, c .refusal-number .ensures) refl, p .1)
+    let n = c .before .before .before .before .before .before .before .before .name-of .ensures in
+    let p = rw n at (c .before .before .before .before .before .before .receive .ensures) in
+    (rw (c .refusal-number .ensures) (ap messageReport (sym (ap openedSays (c .before .before .r .given .1)) ∙ p .0)), p .1)
 
 pub read-answer-spec : {M : Type 1} → statement M
 read-answer-spec =

@@ -1,7 +1,7 @@
 -- The number and the count of the case that the match found.
 -- Assumes nothing.
 use mathlib.Core.Path.{_∙_}
-use Rattle.host.specs.Written.{writeNumber, writeWritten}
+use Rattle.frame.specs.Writing.{writtenSays}
 use Rattle.host.proofs.Told.{told}
 use borrow.Author.Needs.{needs}
 use Rattle.host.proofs.write_command.Statement.{statement}
@@ -25,7 +25,7 @@ same-length c = search needs
 returns : tie.Need-returns
 returns c =
     let p = c .before .before .before .before .before .write .ensures in
-    told writeNumber writeWritten (c .before .n .given .1) (p .0) (p .1) _
+    told writtenSays (c .before .n .given .1) (p .0) (p .1) _
 
 same-length-2 : tie.Need-same-length-2
 same-length-2 c = search needs
@@ -33,7 +33,7 @@ same-length-2 c = search needs
 returns-2 : tie.Need-returns-2
 returns-2 c =
     let p = c .before .before .before .before .before .before .write .ensures in
-    let q = told writeNumber writeWritten (c .before .before .r .given .1) (p .0) (p .1) _ in
+    let q = told writtenSays (c .before .before .r .given .1) (p .0) (p .1) _ in
     (c .refusal-number .ensures ∙ q .0, q .1)
 
 pub write-command-spec : {M : Type 1} → statement M

@@ -1,4 +1,4 @@
--- The three cases of `packetDone`: no room, no place, and a packet that is kept.
+-- The three cases of `packetOut`: no room, no place, and a packet that is kept.
 -- Assumes nothing.
 use Rattle.inbox.specs.Packets.{packetOf}
 use Rattle.inbox.proofs.Laws.{no-room, no-place, placed}

@@ -1,4 +1,4 @@
--- The three cases of `requestDone`: no room, nothing held, and a packet that is delivered.
+-- The three cases of `requestOut`: no room, nothing held, and a packet that is delivered.
 -- Assumes nothing.
 use Prim.Native.Nat.{_-_}
 use native.Mathlib.Omega.{arith}

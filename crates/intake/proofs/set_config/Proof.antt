@@ -45,14 +45,14 @@ returns c =
 with-air-requires : tie.Need-with-air-requires
 with-air-requires c κs = search needs
 
-accept-requires : tie.Need-accept-requires
-accept-requires c κs = search needs
+done-requires : tie.Need-done-requires
+done-requires c κs = search needs
 
 returns-2 : tie.Need-returns-2
 unfolding onSet
 returns-2 c =
     record {
-      gives = gives _ (sets-later _ _ (c .before .before .before .before .before .before .before .before .before .before .before .args .d .air .radio) (c .before .before .match .keys2)) (quiet _ _ _ _ _ (rw (c .before .with-air .ensures, c .before .before .before .before .with-inbox .ensures, c .before .before .before .before .before .deaf .ensures) at (c .accept .ensures)));
+      gives = gives _ (sets-later _ _ (c .before .before .before .before .before .before .before .before .before .before .before .args .d .air .radio) (c .before .before .match .keys2)) (quiet _ _ _ _ (rw (c .before .with-air .ensures, c .before .before .before .before .with-inbox .ensures, c .before .before .before .before .before .deaf .ensures) at (c .done .ensures)));
       commands = c .before .before .before .before .before .before .before .keep .ensures;
     }
 
@@ -84,7 +84,7 @@ set-config-spec =
     same-length
     returns
     with-air-requires
-    accept-requires
+    done-requires
     returns-2
     configure-requires-2
     same-length-2

@@ -47,8 +47,8 @@ add-more c = search needs
 with-air-requires : tie.Need-with-air-requires
 with-air-requires c κs = search needs
 
-accept-requires : tie.Need-accept-requires
-accept-requires c κs = search needs
+done-requires : tie.Need-done-requires
+done-requires c κs = search needs
 
 same-length-2 : tie.Need-same-length-2
 same-length-2 c = search needs
@@ -58,7 +58,7 @@ unfolding onTx
 returns-2 c =
     let e = rw (c .before .before .before .is-free .ensures) at (c .before .before .if1 .left) in
     record {
-      gives = simp e (then (sent-one (c .before .before .before .before .before .before .say-ok .ensures)) (quiet _ _ _ _ _ (rw (c .before .with-air .ensures) at (c .accept .ensures))));
+      gives = simp e (then (sent-one (c .before .before .before .before .before .before .say-ok .ensures)) (quiet _ _ _ _ (rw (c .before .with-air .ensures) at (c .done .ensures))));
       commands = c .before .before .before .before .before .before .before .before .keep .ensures;
     }
 
@@ -77,6 +77,6 @@ tx-spec =
     returns
     add-more
     with-air-requires
-    accept-requires
+    done-requires
     same-length-2
     returns-2)

@@ -9,15 +9,15 @@ use Rattle.link.proofs.damaged.Tie as tie
 say-err-requires : tie.Need-say-err-requires
 say-err-requires c κs = search needs
 
-accept-requires : tie.Need-accept-requires
-accept-requires c κs = search needs
+done-requires : tie.Need-done-requires
+done-requires c κs = search needs
 
 same-length : tie.Need-same-length
 same-length c = search needs
 
 returns : tie.Need-returns
 returns c =
-    spoken _ _ _ (sent-one (c .before .before .before .say-err .ensures)) (c .accept .ensures)
+    spoken _ _ (sent-one (c .before .before .before .say-err .ensures)) (c .done .ensures)
 
 pub damaged-spec : {M : Type 1} → statement M
-damaged-spec = tie.close (tie.spec say-err-requires accept-requires same-length returns)
+damaged-spec = tie.close (tie.spec say-err-requires done-requires same-length returns)

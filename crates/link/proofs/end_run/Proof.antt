@@ -10,12 +10,12 @@ use Rattle.link.proofs.end_run.Tie as tie
 cast-n : tie.Need-cast-n
 cast-n c = search needs
 
-accept-requires : tie.Need-accept-requires
-accept-requires c κs = search needs
+done-requires : tie.Need-done-requires
+done-requires c κs = search needs
 
 returns : tie.Need-returns
 returns c =
-    rw (no-run (c .before .before .before .before .before .args .run .now) (c .before .before .before .before .before .args .commands .now) (c .before .before .before .before .before .args .d) (c .before .if1 .taken)) (record { gives = quiet _ _ _ _ 0 (c .accept .ensures); commands = refl })
+    rw (no-run (c .before .before .before .before .before .args .run .now) (c .before .before .before .before .before .args .commands .now) (c .before .before .before .before .before .args .d) (c .before .if1 .taken)) (record { gives = quiet _ _ _ 0 (c .done .ensures); commands = refl })
 
 with-link-requires : tie.Need-with-link-requires
 with-link-requires c κs = search needs
@@ -45,7 +45,7 @@ end-run-spec =
     tie.close
     (tie.spec
     cast-n
-    accept-requires
+    done-requires
     returns
     with-link-requires
     damaged-requires

@@ -1,8 +1,8 @@
 -- Each answer is where the chain of tests in its definition ends (Laws).
 -- Assumes nothing.
 use mathlib.Core.Path.{refl}
-use Rattle.control.proofs.Laws.{quiet}
-use Rattle.link.specs.Link.{zeroDone}
+use Rattle.control.proofs.Laws.{refusal, takes}
+use Rattle.link.specs.Link.{byteOut}
 use Rattle.link.proofs.Laws.{no-room, stalls, enters}
 use borrow.Author.Needs.{needs}
 use Rattle.link.proofs.zero.Statement.{statement}
@@ -12,9 +12,9 @@ refuse-requires : tie.Need-refuse-requires
 refuse-requires c κs = search needs
 
 returns : tie.Need-returns
-unfolding zeroDone
+unfolding byteOut
 returns c =
-    rw (no-room _ (c .before .before .before .args .d) _ _ (c .before .if1 .taken)) (record { gives = quiet _ _ _ _ 0 (c .refuse .ensures); commands = refl })
+    rw (no-room _ _ _ (c .before .before .before .args .d) _ (c .before .if1 .taken)) (record { answers = refusal _ _ _ (c .refuse .ensures); run = refl; commands = refl })
 
 is-stalled-requires : tie.Need-is-stalled-requires
 is-stalled-requires c κs = search needs
@@ -23,20 +23,25 @@ refuse-requires-2 : tie.Need-refuse-requires-2
 refuse-requires-2 c κs = search needs
 
 returns-2 : tie.Need-returns-2
-unfolding zeroDone
+unfolding byteOut
 returns-2 c =
-    let s = rw (c .before .before .is-stalled .ensures) at (c .before .if2 .taken) in rw (stalls _ (c .before .before .before .before .before .before .args .d) _ _ (c .before .before .before .before .if1 .left) s) (record { gives = quiet _ _ _ _ 0 (c .refuse2 .ensures); commands = refl })
+    let s = rw (c .before .before .is-stalled .ensures) at (c .before .if2 .taken) in
+    rw (stalls _ _ _ (c .before .before .before .before .before .before .args .d) _ (c .before .before .before .before .if1 .left) s) (record { answers = refusal _ _ _ (c .refuse2 .ensures); run = refl; commands = refl })
 
 end-run-requires : tie.Need-end-run-requires
 end-run-requires c κs = search needs
+
+take-requires : tie.Need-take-requires
+take-requires c κs = search needs
 
 same-length : tie.Need-same-length
 same-length c = search needs
 
 returns-3 : tie.Need-returns-3
-unfolding zeroDone
+unfolding byteOut
 returns-3 c =
-    let s = rw (c .before .before .before .before .before .before .is-stalled .ensures) at (c .before .before .before .before .before .if2 .left) in rw (enters _ (c .before .before .before .before .before .before .before .before .before .before .args .d) _ _ (c .before .before .before .before .before .before .before .before .if1 .left) s) (c .before .before .end-run .ensures)
+    let s = rw (c .before .before .before .before .before .before .before .is-stalled .ensures) at (c .before .before .before .before .before .before .if2 .left) in
+    rw (enters _ _ _ (c .before .before .before .before .before .before .before .before .before .before .before .args .d) _ (c .before .before .before .before .before .before .before .before .before .if1 .left) s) (record { answers = takes _ (c .before .before .before .end-run .ensures .gives) (c .take .ensures); run = refl; commands = c .before .before .before .end-run .ensures .commands })
 
 pub zero-spec : {M : Type 1} → statement M
 zero-spec =
@@ -48,5 +53,6 @@ zero-spec =
     refuse-requires-2
     returns-2
     end-run-requires
+    take-requires
     same-length
     returns-3)

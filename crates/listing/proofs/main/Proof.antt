@@ -7,16 +7,16 @@ use lib.ListN.{length}
 use Rattle.cobs.specs.Answers.{encodedMax}
 use Rattle.capture.specs.Listing.{heading}
 use Rattle.capture.specs.Stream.{started}
-use Rattle.listing.specs.Turns.{pieceMax, output, full, most}
+use Rattle.listing.specs.Turns.{pieceMax, output, filledMax, listedMax}
 use borrow.Author.Needs.{needs}
 use Rattle.listing.proofs.main.Statement.{statement}
 use Rattle.listing.proofs.main.Tie as tie
 
 abbrev Inv-loop : tie.InvT-loop
-Inv-loop run₀ out₀ s₀ run out s = (encodedMax ≡ length run) × (output ≡ length out) × (s .filled ≤ full) × (s .at + s .len ≤ most + pieceMax)
+Inv-loop run₀ out₀ s₀ run out s = (encodedMax ≡ length run) × (output ≡ length out) × (s .filled ≤ filledMax) × (s .at + s .len ≤ listedMax + pieceMax)
 
 abbrev μ-loop : tie.MeasureT-loop
-μ-loop run₀ out₀ s₀ run out s = most - (s .at + s .len)
+μ-loop run₀ out₀ s₀ run out s = listedMax - (s .at + s .len)
 
 output-requires : tie.Need-output-requires Inv-loop μ-loop
 output-requires c κs = search needs

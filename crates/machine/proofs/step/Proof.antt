@@ -1,7 +1,8 @@
 -- Each event is what its own contract says.
 -- Assumes nothing.
 use mathlib.Core.Path.{refl}
-use Rattle.machine.specs.Machine.{runs}
+use Rattle.machine.specs.Machine.{runs, leaves}
+use Rattle.machine.proofs.Laws.{left-by}
 use borrow.Author.Needs.{needs}
 use Rattle.machine.proofs.step.Statement.{statement}
 use Rattle.machine.proofs.step.Tie as tie
@@ -16,9 +17,10 @@ same-length : tie.Need-same-length
 same-length c = search needs
 
 returns : tie.Need-returns
-unfolding runs
+unfolding runs leaves
 returns c =
-    rw (c .before .before .before .before .before .before .before .e .given .1) (record { answers = c .before .before .byte .ensures .gives .answers; run = c .before .before .byte .ensures .run; commands = c .before .before .byte .ensures .commands; packets = refl; out = c .before .before .byte .ensures .gives .writes })
+    let x = c .before .before .byte .ensures in
+    rw (c .before .before .before .before .before .before .before .e .given .1) (left-by (x .answers .tells) (x .run) (x .commands) refl (x .answers .writes))
 
 enum-told : tie.Need-enum-told
 enum-told c = search needs
@@ -27,9 +29,9 @@ tick-requires : tie.Need-tick-requires
 tick-requires c κs = search needs
 
 returns-2 : tie.Need-returns-2
-unfolding runs
+unfolding runs leaves
 returns-2 c =
-    rw (c .before .enum-told .given .1) (record { answers = c .tick .ensures; run = refl; commands = refl; packets = refl; out = refl })
+    rw (c .before .enum-told .given .1) (left-by (c .tick .ensures) refl refl refl refl)
 
 enum-told-2 : tie.Need-enum-told-2
 enum-told-2 c = search needs
@@ -38,9 +40,9 @@ clear-requires : tie.Need-clear-requires
 clear-requires c κs = search needs
 
 returns-3 : tie.Need-returns-3
-unfolding runs
+unfolding runs leaves
 returns-3 c =
-    rw (c .before .enum-told2 .given .1) (record { answers = c .clear .ensures; run = refl; commands = refl; packets = refl; out = refl })
+    rw (c .before .enum-told2 .given .1) (left-by (c .clear .ensures) refl refl refl refl)
 
 enum-told-3 : tie.Need-enum-told-3
 enum-told-3 c = search needs
@@ -52,9 +54,10 @@ same-length-2 : tie.Need-same-length-2
 same-length-2 c = search needs
 
 returns-4 : tie.Need-returns-4
-unfolding runs
+unfolding runs leaves
 returns-4 c =
-    rw (c .before .before .before .before .before .enum-told3 .given .1) (record { answers = c .before .before .busy .ensures .answers; run = refl; commands = refl; packets = refl; out = c .before .before .busy .ensures .writes })
+    let x = c .before .before .busy .ensures in
+    rw (c .before .before .before .before .before .enum-told3 .given .1) (left-by (x .tells) refl refl refl (x .writes))
 
 enum-known-e-2 : tie.Need-enum-known-e-2
 enum-known-e-2 c = search needs
@@ -66,9 +69,10 @@ same-length-3 : tie.Need-same-length-3
 same-length-3 c = search needs
 
 returns-5 : tie.Need-returns-5
-unfolding runs
+unfolding runs leaves
 returns-5 c =
-    rw (c .before .before .before .before .before .before .e2 .given .1) (record { answers = c .before .before .sent .ensures .answers; run = refl; commands = refl; packets = refl; out = c .before .before .sent .ensures .writes })
+    let x = c .before .before .sent .ensures in
+    rw (c .before .before .before .before .before .before .e2 .given .1) (left-by (x .tells) refl refl refl (x .writes))
 
 enum-told-4 : tie.Need-enum-told-4
 enum-told-4 c = search needs
@@ -80,9 +84,10 @@ same-length-4 : tie.Need-same-length-4
 same-length-4 c = search needs
 
 returns-6 : tie.Need-returns-6
-unfolding runs
+unfolding runs leaves
 returns-6 c =
-    rw (c .before .before .before .before .before .enum-told4 .given .1) (record { answers = c .before .before .configured .ensures .answers; run = refl; commands = refl; packets = refl; out = c .before .before .configured .ensures .writes })
+    let x = c .before .before .configured .ensures in
+    rw (c .before .before .before .before .before .enum-told4 .given .1) (left-by (x .tells) refl refl refl (x .writes))
 
 enum-told-5 : tie.Need-enum-told-5
 enum-told-5 c = search needs
@@ -94,9 +99,10 @@ same-length-5 : tie.Need-same-length-5
 same-length-5 c = search needs
 
 returns-7 : tie.Need-returns-7
-unfolding runs
+unfolding runs leaves
 returns-7 c =
-    rw (c .before .before .before .before .before .enum-told5 .given .1) (record { answers = c .before .before .fault .ensures .answers; run = refl; commands = refl; packets = refl; out = c .before .before .fault .ensures .writes })
+    let x = c .before .before .fault .ensures in
+    rw (c .before .before .before .before .before .enum-told5 .given .1) (left-by (x .tells) refl refl refl (x .writes))
 
 enum-known-e-3 : tie.Need-enum-known-e-3
 enum-known-e-3 c = search needs
@@ -105,9 +111,10 @@ packet-requires : tie.Need-packet-requires
 packet-requires c κs = search needs
 
 returns-8 : tie.Need-returns-8
-unfolding runs
+unfolding runs leaves
 returns-8 c =
-    rw (c .before .before .before .e3 .given .1) (record { answers = c .packet .ensures .answers; run = refl; commands = refl; packets = c .packet .ensures .packets; out = refl })
+    let x = c .packet .ensures in
+    rw (c .before .before .before .e3 .given .1) (left-by (x .tells) refl refl (x .packets) refl)
 
 enum-told-6 : tie.Need-enum-told-6
 enum-told-6 c = search needs
@@ -119,9 +126,10 @@ same-length-6 : tie.Need-same-length-6
 same-length-6 c = search needs
 
 returns-9 : tie.Need-returns-9
-unfolding runs
+unfolding runs leaves
 returns-9 c =
-    rw (c .before .before .before .before .before .enum-told6 .given .1) (record { answers = c .before .before .request .ensures .gives .answers; run = refl; commands = refl; packets = c .before .before .request .ensures .packets; out = c .before .before .request .ensures .gives .writes })
+    let x = c .before .before .request .ensures in
+    rw (c .before .before .before .before .before .enum-told6 .given .1) (left-by (x .answers .tells) refl refl (x .packets) (x .answers .writes))
 
 enum-told-7 : tie.Need-enum-told-7
 enum-told-7 c = search needs
@@ -130,9 +138,9 @@ disconnect-requires : tie.Need-disconnect-requires
 disconnect-requires c κs = search needs
 
 returns-10 : tie.Need-returns-10
-unfolding runs
+unfolding runs leaves
 returns-10 c =
-    rw (c .before .enum-told7 .given .1) (record { answers = c .disconnect .ensures; run = refl; commands = refl; packets = refl; out = refl })
+    rw (c .before .enum-told7 .given .1) (left-by (c .disconnect .ensures) refl refl refl refl)
 
 pub step-spec : {M : Type 1} → statement M
 step-spec =

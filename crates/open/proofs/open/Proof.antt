@@ -1,6 +1,6 @@
 -- A run that opens has its body in working memory, and that body has room.
 -- Assumes nothing.
-use mathlib.Core.Path.{_≡_, sym, _∙_}
+use mathlib.Core.Path.{_≡_, sym, ap, _∙_}
 use mathlib.Core.List.{List}
 use Prim.Native.Nat.{ℕ}
 use native.Mathlib.Nat.{le-refl}
@@ -11,7 +11,7 @@ use Rattle.numbers.specs.declared.Refusal.{Refusal}
 use Rattle.buffer.specs.Lay.{lay}
 use Rattle.cobs.specs.Decoding.{decoded}
 use Rattle.cobs.specs.Answers.{encodedMax}
-use Rattle.frame.specs.Reading.{openAnswer, openLeft}
+use Rattle.frame.specs.Reading.{openAnswer, openLeft, openedSays}
 use Rattle.frame.specs.declared.Opened.the-variants as O
 use Rattle.frame.proofs.Laws.{opens-facts, unpack-body}
 use borrow.Author.Needs.{needs}
@@ -43,7 +43,7 @@ returns : tie.Need-returns
 returns c =
     let s = c .before .before .before .before .before .before .before in
     let w = c .before .before .before .unpack .ensures in
-    (w .0, sym (open-keeps (s .args .run .now) (s .args .dst .now) (sym (w .0) ∙ c .enum-told .given .1)))
+    (ap openedSays (w .0), sym (open-keeps (s .args .run .now) (s .args .dst .now) (sym (w .0) ∙ c .enum-told .given .1)))
 
 add-memory : tie.Need-add-memory
 add-memory c =
@@ -79,7 +79,7 @@ returns-2 c =
     let d = s .args .dst .now in
     let a = c .before .before .before .before .before .before .opened .given .1 in
     let e = sym (w .0) ∙ a in (
-      sym a ∙ w .0,
+      ap openedSays (sym a ∙ w .0),
       rw (c .before .before .copy .ensures, w .1, unpack-body _ _ _ e (le-refl encodedMax)) (sym (open-lays (s .args .run .now) d e)),
     )
 

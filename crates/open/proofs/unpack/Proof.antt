@@ -2,7 +2,10 @@
 -- Assumes nothing.
 use mathlib.Core.Path.{sym, _∙_}
 use borrow.Author.Tests.{lt-ltb, le-ltb}
+use lib.ListN.{length}
 use lib.Seq.{length-take-le}
+use Rattle.cobs.specs.Answers.{decodeAnswer}
+use Rattle.cobs.proofs.Same.{decoded-same}
 use Rattle.frame.specs.Reading.{openAnswer, unpackLeft}
 use Rattle.open.proofs.Decoding.{is-broken, is-sound, inside, body-read}
 use borrow.Author.Needs.{needs}
@@ -39,7 +42,8 @@ returns-3 c =
     let small = c .before .before .before .before .before .before .if1 .left in
     let e = le-ltb _ _ small in
     let f = le-ltb _ _ (c .before .before .before .before .before .if2 .left) in
-    let k = rw (w .0) at (c .match .keys2) in
+    let a = decoded-same (c .before .before .before .decode .result) (decodeAnswer (s .args .run .now) (length (s .args .memory .now))) (w .0) in
+    let k = rw a at (c .match .keys2) in
     let g = is-broken (s .args .run .now) (s .args .memory .now) small (s .pre) k in
     (simp (e, f, g), simp (e, f) (w .1))
 
@@ -48,7 +52,7 @@ slice-reshare-prefix-open-body c =
     let s = c .before .before .before .before .before .before .before .before .before .before .before in
     let w = c .before .before .before .before .before .decode in
     let small = c .before .before .before .before .before .before .before .before .if1 .left in
-    let a = sym (w .ensures .0) ∙ c .before .decoded .given .1 in
+    let a = sym (decoded-same _ _ (w .ensures .0)) ∙ c .before .decoded .given .1 in
     rw (w .kept .1 .0)
     (inside (s .args .run .now) (s .args .memory .now) small (s .pre) a)
 
@@ -57,7 +61,7 @@ slice-aggregate-open-body c =
     let s = c .before .before .before .before .before .before .before .before .before .before .before .before in
     let w = c .before .before .before .before .before .before .decode in
     let small = c .before .before .before .before .before .before .before .before .before .if1 .left in
-    let a = sym (w .ensures .0) ∙ c .before .before .decoded .given .1 in
+    let a = sym (decoded-same _ _ (w .ensures .0)) ∙ c .before .before .decoded .given .1 in
     sym
     (length-take-le _ (w .last .1 .0)
     (rw (w .kept .1 .0)
@@ -75,7 +79,7 @@ returns-4 c =
     let s = c .before .before .before .before .before .before .before .before .before .before .before .before .before in
     let w = c .before .before .before .before .before .before .before .decode .ensures in
     let small = c .before .before .before .before .before .before .before .before .before .before .if1 .left in
-    let a = sym (w .0) ∙ c .before .before .before .decoded .given .1 in
+    let a = sym (decoded-same _ _ (w .0)) ∙ c .before .before .before .decoded .given .1 in
     let e = le-ltb _ _ small in
     let f = le-ltb _ _ (c .before .before .before .before .before .before .before .before .before .if2 .left) in
     let g = is-sound (s .args .run .now) (s .args .memory .now) small (s .pre) a in

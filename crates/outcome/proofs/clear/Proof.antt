@@ -1,9 +1,9 @@
--- Only what listens goes on air; the room is tested before all else.
+-- A TX that listens is on air; any other radio is refused.
 -- Assumes nothing.
 use mathlib.Core.Path.{refl}
 use Rattle.control.specs.declared.Radio.{Radio}
-use Rattle.control.proofs.Laws.{plain, entered, closed}
-use Rattle.outcome.specs.Outcomes.{clearDone, onClear}
+use Rattle.control.proofs.Laws.{tells-refusal, tells-quiet, entered, closed}
+use Rattle.outcome.specs.Outcomes.{clearOut, onClear}
 use Rattle.outcome.proofs.Laws.{unless-listening}
 use borrow.Author.Needs.{needs}
 use Rattle.outcome.proofs.clear.Statement.{statement}
@@ -13,9 +13,9 @@ refuse-requires : tie.Need-refuse-requires
 refuse-requires c κs = search needs
 
 returns : tie.Need-returns
-unfolding clearDone
+unfolding clearOut
 returns c =
-    rw (closed _ _ _ (c .before .if1 .taken)) (plain _ _ 0 _ (c .refuse .ensures))
+    rw (closed _ _ _ (c .before .if1 .taken)) (tells-refusal _ _ (c .refuse .ensures))
 
 enum-known-radio : tie.Need-enum-known-radio
 enum-known-radio c = search needs
@@ -30,19 +30,19 @@ accept-requires : tie.Need-accept-requires
 accept-requires c κs = search needs
 
 returns-2 : tie.Need-returns-2
-unfolding clearDone
+unfolding clearOut
 returns-2 c =
-    rw (entered _ _ _ (c .before .before .before .before .before .before .before .if1 .left), c .before .before .before .before .radio .given .1) (plain _ _ 0 _ (rw (c .before .with-air .ensures, c .before .before .with-radio .ensures) at (c .accept .ensures)))
+    rw (entered _ _ _ (c .before .before .before .before .before .before .before .if1 .left), c .before .before .before .before .radio .given .1) (tells-quiet _ _ (rw (c .before .with-air .ensures, c .before .before .with-radio .ensures) at (c .accept .ensures)))
 
 refuse-requires-2 : tie.Need-refuse-requires-2
 refuse-requires-2 c κs = search needs
 
 returns-3 : tie.Need-returns-3
-unfolding clearDone
+unfolding clearOut
 returns-3 c =
     let d = c .before .before .before .before .args .d in
     let e = unless-listening (λ (r : Radio). onClear r d) refl (λ t. refl) refl refl (d .air .radio) (c .before .match .keys2) in
-    rw (entered _ _ _ (c .before .before .before .if1 .left), e) (plain _ _ 0 _ (c .refuse2 .ensures))
+    rw (entered _ _ _ (c .before .before .before .if1 .left), e) (tells-refusal _ _ (c .refuse2 .ensures))
 
 pub clear-spec : {M : Type 1} → statement M
 clear-spec =

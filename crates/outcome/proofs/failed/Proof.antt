@@ -21,15 +21,15 @@ u16-at-requires c κs = search needs
 note-requires : tie.Need-note-requires
 note-requires c κs = search needs
 
-accept-requires : tie.Need-accept-requires
-accept-requires c κs = search needs
+done-requires : tie.Need-done-requires
+done-requires c κs = search needs
 
 same-length : tie.Need-same-length
 same-length c = search needs
 
 returns : tie.Need-returns
 returns c =
-    spoken _ _ _ (from-start (rw (c .before .before .before .before .before .before .before .u16-at .ensures) at (c .before .before .before .note .ensures))) (rw (c .before .before .before .before .before .before .before .before .before .with-radio .ensures) at (c .accept .ensures))
+    spoken _ _ (from-start (rw (c .before .before .before .before .before .before .before .u16-at .ensures) at (c .before .before .before .note .ensures))) (rw (c .before .before .before .before .before .before .before .before .before .with-radio .ensures) at (c .done .ensures))
 
 pub failed-spec : {M : Type 1} → statement M
 failed-spec =
@@ -40,6 +40,6 @@ failed-spec =
     add-u16-at
     u16-at-requires
     note-requires
-    accept-requires
+    done-requires
     same-length
     returns)

@@ -1,7 +1,7 @@
 -- First the ERR, then the report, and then all goes on as after a TX. The two take 21 bytes at most, so what comes then has room.
 -- Assumes nothing.
 use native.Mathlib.Omega.{arith}
-use Rattle.device.specs.Messages.{CANCELLED}
+use Rattle.kind.specs.Kinds.{CANCELLED}
 use Rattle.wire.proofs.Laws.{sent-one, length-done}
 use Rattle.control.proofs.Laws.{then}
 use Rattle.outcome.proofs.Laws.{noted-few, from-start}

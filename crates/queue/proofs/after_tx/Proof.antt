@@ -38,12 +38,12 @@ with-air-requires c κs = search needs
 idle-requires : tie.Need-idle-requires
 idle-requires c κs = search needs
 
-accept-requires : tie.Need-accept-requires
-accept-requires c κs = search needs
+done-requires : tie.Need-done-requires
+done-requires c κs = search needs
 
 returns-3 : tie.Need-returns-3
 returns-3 c =
-    gives _ (after-none _ _ (c .before .before .before .before .if1 .left) (c .before .before .before .if2 .left)) (quiet _ _ _ _ _ (rw (c .before .before .with-air .ensures, c .before .idle .ensures) at (c .accept .ensures)))
+    gives _ (after-none _ _ (c .before .before .before .before .if1 .left) (c .before .before .before .if2 .left)) (quiet _ _ _ _ (rw (c .before .before .with-air .ensures, c .before .idle .ensures) at (c .done .ensures)))
 
 pub after-tx-spec : {M : Type 1} → statement M
 after-tx-spec =
@@ -58,5 +58,5 @@ after-tx-spec =
     returns-2
     with-air-requires
     idle-requires
-    accept-requires
+    done-requires
     returns-3)

@@ -33,8 +33,8 @@ add-t21 c = search needs
 ldro-requires : tie.Need-ldro-requires
 ldro-requires c κs = search needs
 
-accept-requires : tie.Need-accept-requires
-accept-requires c κs = search needs
+done-requires : tie.Need-done-requires
+done-requires c κs = search needs
 
 same-length : tie.Need-same-length
 same-length c = search needs
@@ -43,8 +43,8 @@ returns : tie.Need-returns
 unfolding begin
 returns c =
     let e = c .before .before .before .before .before .before .before .before .before .few .ensures in
-    spoken _ _ _ (record { ends = rw e at (c .before .before .before .before .before .before .before .cancel .ensures .0); lays = rw e at (c .before .before .before .before .before .before .before .cancel .ensures .1) })
-    (rw (c .before .before .before .before .with-air .ensures, c .before .before .len-at .ensures .0, c .before .ldro .ensures) at (c .accept .ensures))
+    spoken _ _ (record { ends = rw e at (c .before .before .before .before .before .before .before .cancel .ensures .0); lays = rw e at (c .before .before .before .before .before .before .before .cancel .ensures .1) })
+    (rw (c .before .before .before .before .with-air .ensures, c .before .before .len-at .ensures .0, c .before .ldro .ensures) at (c .done .ensures))
 
 pub configure-spec : {M : Type 1} → statement M
 configure-spec =
@@ -59,6 +59,6 @@ configure-spec =
     add-t15
     add-t21
     ldro-requires
-    accept-requires
+    done-requires
     same-length
     returns)

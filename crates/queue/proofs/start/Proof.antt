@@ -42,13 +42,13 @@ with-air-requires c κs = search needs
 add-t20 : tie.Need-add-t20
 add-t20 c = search needs
 
-accept-requires : tie.Need-accept-requires
-accept-requires c κs = search needs
+done-requires : tie.Need-done-requires
+done-requires c κs = search needs
 
 returns : tie.Need-returns
 unfolding start
 returns c =
-    plain _ _ _ _ (rw (c .before .with-air .ensures, c .before .before .begun .ensures, c .before .before .before .listens .ensures, c .before .before .before .before .before .u16-at .ensures, c .before .before .before .before .before .before .before .len-at .ensures .0) at (c .accept .ensures))
+    plain _ _ _ (rw (c .before .with-air .ensures, c .before .before .begun .ensures, c .before .before .before .listens .ensures, c .before .before .before .before .before .u16-at .ensures, c .before .before .before .before .before .before .before .len-at .ensures .0) at (c .done .ensures))
 
 pub start-spec : {M : Type 1} → statement M
 start-spec =
@@ -66,5 +66,5 @@ start-spec =
     cast-first
     with-air-requires
     add-t20
-    accept-requires
+    done-requires
     returns)

@@ -1,8 +1,7 @@
--- The state is taken from its words, the event runs, and its answer is stored.
+-- The event's own contract, with its answer stored in words.
 -- Assumes nothing.
-use Rattle.machine.specs.Machine.{runs}
-use Rattle.dongle.specs.Calls.{called}
-use Rattle.dongle.proofs.Calls.{stored}
+use Rattle.dongle.specs.Calls.{packetCall}
+use Rattle.dongle.proofs.Calls.{packet-left}
 use borrow.Author.Needs.{needs}
 use Rattle.radio.proofs.packet.Statement.{statement}
 use Rattle.radio.proofs.packet.Tie as tie
@@ -20,9 +19,10 @@ tell-requires : tie.Need-tell-requires
 tell-requires c κs = search needs
 
 returns : tie.Need-returns
-unfolding called runs
+unfolding packetCall
 returns c =
-    let g = rw (c .before .before .before .before .before .before .device-of .ensures, c .before .before .before .before .before .heard-of .ensures) at (c .before .before .before .packet .ensures) in λ run m o e. rw (e, g .packets) (stored (record { answers = g .answers; control = c .tell .ensures .0; answer = c .tell .ensures .1 }) run m _ o)
+    let g = rw (c .before .before .before .before .before .before .device-of .ensures, c .before .before .before .before .before .heard-of .ensures) at (c .before .before .before .packet .ensures) in
+    packet-left (g .tells) (c .tell .ensures) (g .packets)
 
 pub packet-spec : {M : Type 1} → statement M
 packet-spec =

@@ -4,7 +4,7 @@ use mathlib.Core.Path.{refl, sym, _∙_}
 use native.Mathlib.Omega.{arith}
 use lib.ListN.{length}
 use Rattle.frame.proofs.Laws.{opens-facts}
-use Rattle.reader.proofs.Steps.{was-open, payload-there}
+use Rattle.reader.proofs.Steps.{received, was-open, payload-there}
 use borrow.Author.Needs.{needs}
 use Rattle.reader.proofs.read.Statement.{statement}
 use Rattle.reader.proofs.read.Tie as tie
@@ -18,7 +18,8 @@ enum-known-k c = search needs
 add-result : tie.Need-add-result
 add-result c =
     let s = c .before .before .before .before .before .before .before .before .before .args in
-    let e = sym (c .before .before .before .before .before .receive .ensures .0) ∙ c .before .k .given .1 in
+    let w = c .before .before .before .before .before .receive in
+    let e = received (s .kinds) (s .run .now) (s .dst .now) (w .ensures .0) (c .before .k .given .1) in
     let o = opens-facts (s .run .now) (length (s .dst .now)) (was-open (s .kinds) (s .run .now) (s .dst .now) e) in
     omega (arith, o .most)
 
@@ -31,9 +32,10 @@ part-dst-start c = search needs
 part-dst-end : tie.Need-part-dst-end
 part-dst-end c =
     let s = c .before .before .before .before .before .before .before .before .before .args in
-    let e = sym (c .before .before .before .before .before .receive .ensures .0) ∙ c .before .k .given .1 in
+    let w = c .before .before .before .before .before .receive in
+    let e = received (s .kinds) (s .run .now) (s .dst .now) (w .ensures .0) (c .before .k .given .1) in
     let o = opens-facts (s .run .now) (length (s .dst .now)) (was-open (s .kinds) (s .run .now) (s .dst .now) e) in
-    omega (arith, o .long, o .inside, o .fits, c .before .before .before .before .before .receive .kept .1 .1 .0)
+    omega (arith, o .long, o .inside, o .fits, w .kept .1 .1 .0)
 
 enum-known-r : tie.Need-enum-known-r
 enum-known-r c = search needs
@@ -47,12 +49,15 @@ slice-aggregate-result c = search needs
 returns : tie.Need-returns
 returns c =
     let s = c .before .before .before .before .before .before .before .before .before .before .args in
-    let e = sym (c .before .before .before .before .before .before .receive .ensures .0) ∙ c .before .before .k .given .1 in
-    rw e (rw (c .before .before .before .before .before .before .receive .ensures .1) (payload-there (s .kinds) (s .run .now) (s .dst .now) e), (refl, (refl, refl)))
+    let w = c .before .before .before .before .before .before .receive in
+    let e = received (s .kinds) (s .run .now) (s .dst .now) (w .ensures .0) (c .before .before .k .given .1) in
+    rw e (rw (w .ensures .1) (payload-there (s .kinds) (s .run .now) (s .dst .now) e), (refl, (refl, refl)))
 
 returns-2 : tie.Need-returns-2
 returns-2 c =
-    let e = sym (c .before .before .before .before .before .before .before .receive .ensures .0) ∙ c .before .before .before .r .given .1 in
+    let s = c .before .before .before .before .before .before .before .before .before .before .before .args in
+    let w = c .before .before .before .before .before .before .before .receive in
+    let e = received (s .kinds) (s .run .now) (s .dst .now) (w .ensures .0) (c .before .before .before .r .given .1) in
     rw e (refl, (c .before .refusal-number .ensures, (refl, refl)))
 
 pub read-spec : {M : Type 1} → statement M

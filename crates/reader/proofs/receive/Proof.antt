@@ -1,11 +1,13 @@
 -- The frame is opened in working memory, its message judged there, and only then copied to the caller's memory.
 -- Assumes nothing.
-use mathlib.Core.Path.{sym, _∙_}
+use mathlib.Core.Path.{sym, ap, _∙_}
 use native.Mathlib.Nat.{le-refl}
 use native.Mathlib.Omega.{arith}
 use lib.ListN.{length, length-take}
 use lib.Seq.{length-take-le}
+use Rattle.frame.specs.Reading.{openedSays}
 use Rattle.frame.proofs.Laws.{opens-facts, unpack-body, payload-seen}
+use Rattle.verdict.proofs.Laws.{judged-same}
 use Rattle.reader.proofs.Steps.{keeps, refuses, takes}
 use borrow.Author.Needs.{needs}
 use Rattle.reader.proofs.receive.Statement.{statement}
@@ -27,7 +29,7 @@ returns : tie.Need-returns
 returns c =
     let s = c .before .before .before .before .before .before .before .args in
     let k = keeps (s .kinds) (s .run .now) (s .dst .now) (sym (c .before .before .before .unpack .ensures .0) ∙ c .enum-told .given .1) in
-    (c .enum-told .given .1 ∙ sym (k .0), sym (k .1))
+    (ap openedSays (c .enum-told .given .1 ∙ sym (k .0)), sym (k .1))
 
 add-fits-read : tie.Need-add-fits-read
 add-fits-read c =
@@ -67,9 +69,11 @@ returns-2 c =
     let e = sym (w .ensures .0) ∙ c .before .before .before .before .before .before .before .before .opened .given .1 in
     let o = opens-facts (s .run .now) (length (s .dst .now)) e in
     let p = payload-seen (s .run .now) (length (s .dst .now)) (w .last .1 .1 .0) e (w .ensures .1) in
-    let j = sym (rw (c .before .before .before .before .fits-read .ensures, p) at (c .before .before .before .judge .ensures)) ∙ c .before .r .given .1 in
+    let f = c .before .before .before .before .fits-read .ensures in
+    let q = rw (f, p) at (c .before .before .before .judge .ensures) in
+    let j = sym (judged-same _ _ q) ∙ c .before .r .given .1 in
     let k = refuses (s .kinds) (s .run .now) (s .dst .now) e j in
-    (sym (k .0), sym (k .1))
+    (ap openedSays (sym (k .0)), sym (k .1))
 
 enum-told-2 : tie.Need-enum-told-2
 enum-told-2 c = search needs
@@ -116,9 +120,11 @@ returns-3 c =
     let e = sym (w .ensures .0) ∙ c .before .before .before .before .before .before .before .before .before .before .before .before .opened .given .1 in
     let o = opens-facts (s .run .now) (length (s .dst .now)) e in
     let p = payload-seen (s .run .now) (length (s .dst .now)) (w .last .1 .1 .0) e (w .ensures .1) in
-    let j = sym (rw (c .before .before .before .before .before .before .before .before .fits-read .ensures, p) at (c .before .before .before .before .before .before .before .judge .ensures)) ∙ c .before .before .before .before .before .enum-told2 .given .1 in
+    let f = c .before .before .before .before .before .before .before .before .fits-read .ensures in
+    let q = rw (f, p) at (c .before .before .before .before .before .before .before .judge .ensures) in
+    let j = sym (judged-same _ _ q) ∙ c .before .before .before .before .before .enum-told2 .given .1 in
     let k = takes (s .kinds) (s .run .now) (s .dst .now) e j in
-    (sym (k .0), rw (w .ensures .1, unpack-body _ _ _ e (le-refl 282)) at (c .before .before .copy .ensures) ∙ sym (k .1))
+    (ap openedSays (sym (k .0)), rw (w .ensures .1, unpack-body _ _ _ e (le-refl 282)) at (c .before .before .copy .ensures) ∙ sym (k .1))
 
 pub receive-spec : {M : Type 1} → statement M
 receive-spec =

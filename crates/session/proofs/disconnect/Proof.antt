@@ -1,7 +1,7 @@
 -- Each answer is where the chain of tests in its definition ends.
 -- Assumes nothing.
-use Rattle.control.proofs.Laws.{plain, entered, closed}
-use Rattle.session.specs.Session.{disconnectDone}
+use Rattle.control.proofs.Laws.{tells-refusal, tells-taken, tells-quiet, entered, closed}
+use Rattle.session.specs.Session.{disconnectOut}
 use borrow.Author.Needs.{needs}
 use Rattle.session.proofs.disconnect.Statement.{statement}
 use Rattle.session.proofs.disconnect.Tie as tie
@@ -10,17 +10,20 @@ refuse-requires : tie.Need-refuse-requires
 refuse-requires c κs = search needs
 
 returns : tie.Need-returns
-unfolding disconnectDone
+unfolding disconnectOut
 returns c =
-    rw (closed _ _ _ (c .before .if1 .taken)) (plain _ _ 0 _ (c .refuse .ensures))
+    rw (closed _ _ _ (c .before .if1 .taken)) (tells-refusal _ _ (c .refuse .ensures))
 
 end-session-requires : tie.Need-end-session-requires
 end-session-requires c κs = search needs
 
+take-requires : tie.Need-take-requires
+take-requires c κs = search needs
+
 returns-2 : tie.Need-returns-2
-unfolding disconnectDone
+unfolding disconnectOut
 returns-2 c =
-    rw (entered _ _ _ (c .before .before .before .if1 .left)) (simp (c .before .if2 .taken) (c .end-session .ensures))
+    rw (entered _ _ _ (c .before .before .before .before .if1 .left)) (simp (c .before .before .if2 .taken) (tells-taken _ (c .before .end-session .ensures) (c .take .ensures)))
 
 with-link-requires : tie.Need-with-link-requires
 with-link-requires c κs = search needs
@@ -29,9 +32,9 @@ accept-requires : tie.Need-accept-requires
 accept-requires c κs = search needs
 
 returns-3 : tie.Need-returns-3
-unfolding disconnectDone
+unfolding disconnectOut
 returns-3 c =
-    rw (entered _ _ _ (c .before .before .before .before .if1 .left)) (simp (c .before .before .if2 .left) (plain _ _ 0 _ (rw (c .before .with-link .ensures) at (c .accept .ensures))))
+    rw (entered _ _ _ (c .before .before .before .before .if1 .left)) (simp (c .before .before .if2 .left) (tells-quiet _ _ (rw (c .before .with-link .ensures) at (c .accept .ensures))))
 
 pub disconnect-spec : {M : Type 1} → statement M
 disconnect-spec =
@@ -40,6 +43,7 @@ disconnect-spec =
     refuse-requires
     returns
     end-session-requires
+    take-requires
     returns-2
     with-link-requires
     accept-requires

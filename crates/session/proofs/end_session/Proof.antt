@@ -16,23 +16,23 @@ deaf-requires c κs = search needs
 is-free-requires : tie.Need-is-free-requires
 is-free-requires c κs = search needs
 
-accept-requires : tie.Need-accept-requires
-accept-requires c κs = search needs
+done-requires : tie.Need-done-requires
+done-requires c κs = search needs
 
 returns : tie.Need-returns
 unfolding endSession sends
 returns c =
     let f = rw (c .before .before .before .before .ended .ensures) at (sym (c .before .before .is-free .ensures) ∙ c .before .if1 .taken) in
-    simp f (rw (c .before .before .before .before .ended .ensures, c .before .before .before .deaf .ensures) at (c .accept .ensures))
+    simp f (rw (c .before .before .before .before .ended .ensures, c .before .before .before .deaf .ensures) at (c .done .ensures))
 
-accept-requires-2 : tie.Need-accept-requires-2
-accept-requires-2 c κs = search needs
+done-requires-2 : tie.Need-done-requires-2
+done-requires-2 c κs = search needs
 
 returns-2 : tie.Need-returns-2
 unfolding endSession sends
 returns-2 c =
     let f = rw (c .before .before .before .before .ended .ensures) at (sym (c .before .before .is-free .ensures) ∙ c .before .if1 .left) in
-    simp f (rw (c .before .before .before .before .ended .ensures, c .before .before .before .deaf .ensures) at (c .accept2 .ensures))
+    simp f (rw (c .before .before .before .before .ended .ensures, c .before .before .before .deaf .ensures) at (c .done2 .ensures))
 
 pub end-session-spec : {M : Type 1} → statement M
 end-session-spec =
@@ -41,7 +41,7 @@ end-session-spec =
     ended-requires
     deaf-requires
     is-free-requires
-    accept-requires
+    done-requires
     returns
-    accept-requires-2
+    done-requires-2
     returns-2)

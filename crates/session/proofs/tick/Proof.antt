@@ -1,8 +1,11 @@
 -- Each answer is where the chain of tests in its definition ends.
 -- Assumes nothing.
+use Prim.Native.Nat.{_+_}
+use native.Mathlib.Omega.{arith}
 use borrow.Author.Tests.{le-leb, lt-leb}
-use Rattle.control.proofs.Laws.{plain, entered, closed}
-use Rattle.session.specs.Session.{tickDone}
+use Rattle.device.specs.Events.{ticksMax}
+use Rattle.control.proofs.Laws.{tells-refusal, tells-taken, tells-quiet, entered, closed}
+use Rattle.session.specs.Session.{tickOut}
 use borrow.Author.Needs.{needs}
 use Rattle.session.proofs.tick.Statement.{statement}
 use Rattle.session.proofs.tick.Tie as tie
@@ -11,24 +14,30 @@ refuse-requires : tie.Need-refuse-requires
 refuse-requires c κs = search needs
 
 returns : tie.Need-returns
-unfolding tickDone
+unfolding tickOut
 returns c =
-    rw (closed _ _ _ (c .before .if1 .taken)) (plain _ _ 0 _ (c .refuse .ensures))
+    rw (closed _ _ _ (c .before .if1 .taken)) (tells-refusal _ _ (c .refuse .ensures))
 
 is-stalled-requires : tie.Need-is-stalled-requires
 is-stalled-requires c κs = search needs
 
+sub-if3 : tie.Need-sub-if3
+sub-if3 c = search needs
+
 end-session-requires : tie.Need-end-session-requires
 end-session-requires c κs = search needs
 
-returns-2 : tie.Need-returns-2
-unfolding tickDone
-returns-2 c =
-    let e = rw (c .before .before .before .before .is-stalled .ensures) at (c .before .before .if2 .taken) in
-    rw (entered _ _ _ (c .before .before .before .before .before .before .before .if1 .left)) (simp (e, le-leb _ _ (c .before .if3 .taken)) (c .end-session .ensures))
+take-requires : tie.Need-take-requires
+take-requires c κs = search needs
 
-add-t12 : tie.Need-add-t12
-add-t12 c = search needs
+returns-2 : tie.Need-returns-2
+unfolding tickOut
+returns-2 c =
+    let e = rw (c .before .before .before .before .before .is-stalled .ensures) at (c .before .before .before .if2 .taken) in
+    rw (entered _ _ _ (c .before .before .before .before .before .before .before .before .if1 .left)) (simp (e, le-leb ticksMax (c .before .before .before .before .before .before .before .before .before .args .d .link .ticks + 1) (omega (arith, c .before .before .if3 .taken))) (tells-taken _ (c .before .end-session .ensures) (c .take .ensures)))
+
+add-t11 : tie.Need-add-t11
+add-t11 c = search needs
 
 with-link-requires : tie.Need-with-link-requires
 with-link-requires c κs = search needs
@@ -37,19 +46,19 @@ accept-requires : tie.Need-accept-requires
 accept-requires c κs = search needs
 
 returns-3 : tie.Need-returns-3
-unfolding tickDone
+unfolding tickOut
 returns-3 c =
     let e = rw (c .before .before .before .before .before .is-stalled .ensures) at (c .before .before .before .if2 .taken) in
-    rw (entered _ _ _ (c .before .before .before .before .before .before .before .before .if1 .left)) (simp (e, lt-leb _ _ (c .before .before .if3 .left)) (plain _ _ 0 _ (rw (c .before .with-link .ensures) at (c .accept .ensures))))
+    rw (entered _ _ _ (c .before .before .before .before .before .before .before .before .if1 .left)) (simp (e, lt-leb ticksMax (c .before .before .before .before .before .before .before .before .before .args .d .link .ticks + 1) (omega (arith, c .before .before .if3 .left))) (tells-quiet _ _ (rw (c .before .with-link .ensures) at (c .accept .ensures))))
 
 accept-requires-2 : tie.Need-accept-requires-2
 accept-requires-2 c κs = search needs
 
 returns-4 : tie.Need-returns-4
-unfolding tickDone
+unfolding tickOut
 returns-4 c =
     let e = rw (c .before .before .before .is-stalled .ensures) at (c .before .if2 .left) in
-    rw (entered _ _ _ (c .before .before .before .before .before .before .if1 .left)) (simp e (plain _ _ 0 _ (c .accept2 .ensures)))
+    rw (entered _ _ _ (c .before .before .before .before .before .before .if1 .left)) (simp e (tells-quiet _ _ (c .accept2 .ensures)))
 
 pub tick-spec : {M : Type 1} → statement M
 tick-spec =
@@ -58,9 +67,11 @@ tick-spec =
     refuse-requires
     returns
     is-stalled-requires
+    sub-if3
     end-session-requires
+    take-requires
     returns-2
-    add-t12
+    add-t11
     with-link-requires
     accept-requires
     returns-3

@@ -1,7 +1,7 @@
 -- An order has values in two cases, which the code looks for; in the others they are zeros.
 -- Assumes nothing.
 use mathlib.Core.Path.{refl}
-use Rattle.words.specs.Words.{answerWords}
+use Rattle.control.specs.Control.{answerNumbers}
 use Rattle.words.proofs.Laws.{no-values}
 use borrow.Author.Needs.{needs}
 use Rattle.words.proofs.answer_words.Statement.{statement}
@@ -20,7 +20,7 @@ flag-requires : tie.Need-flag-requires
 flag-requires c κs = search needs
 
 returns : tie.Need-returns
-unfolding answerWords
+unfolding answerNumbers
 returns c =
     simp (c .before .before .o .given .1, c .before .before .before .before .order-number .ensures, c .flag .ensures) refl
 
@@ -31,12 +31,12 @@ flag-requires-2 : tie.Need-flag-requires-2
 flag-requires-2 c κs = search needs
 
 returns-2 : tie.Need-returns-2
-unfolding answerWords
+unfolding answerNumbers
 returns-2 c =
     simp (c .before .before .o2 .given .1, c .before .before .before .before .before .order-number .ensures, c .flag2 .ensures) refl
 
 returns-3 : tie.Need-returns-3
-unfolding answerWords
+unfolding answerNumbers
 returns-3 c =
     simp (no-values (c .before .before .before .before .args .a .order) (c .before .match .keys2) (c .match2 .keys2), c .before .before .order-number .ensures) refl
 

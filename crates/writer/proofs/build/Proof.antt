@@ -1,6 +1,8 @@
 -- By the verdict.
 -- Assumes nothing.
-use mathlib.Core.Path.{sym, _∙_}
+use mathlib.Core.Path.{sym, ap, _∙_}
+use Rattle.frame.specs.Writing.{writtenSays}
+use Rattle.verdict.proofs.Laws.{judged-same}
 use Rattle.writer.proofs.Steps.{no-body, as-body}
 use borrow.Author.Needs.{needs}
 use Rattle.writer.proofs.build.Statement.{statement}
@@ -27,16 +29,20 @@ same-length c = search needs
 returns : tie.Need-returns
 returns c =
     let s = c .before .before .before .before .before .before .before .before .before .before .args in
-    let j = sym (rw (c .before .before .before .before .before .before .before .fits-written .ensures) at (c .before .before .before .before .before .before .judge .ensures)) ∙ c .before .before .before .before .enum-told .given .1 in
+    let f = c .before .before .before .before .before .before .before .fits-written .ensures in
+    let q = rw (f) at (c .before .before .before .before .before .before .judge .ensures) in
+    let j = sym (judged-same _ _ q) ∙ c .before .before .before .before .enum-told .given .1 in
     let a = as-body (s .kinds) (s .kind) (s .tag) (s .payload .now) (s .dst .now) j in
-    (c .before .before .build .ensures .0 ∙ sym (a .0), c .before .before .build .ensures .1 ∙ sym (a .1))
+    (c .before .before .build .ensures .0 ∙ ap writtenSays (sym (a .0)), c .before .before .build .ensures .1 ∙ sym (a .1))
 
 returns-2 : tie.Need-returns-2
 returns-2 c =
     let s = c .before .before .before .before .before .before .before .args in
-    let j = sym (rw (c .before .before .before .before .fits-written .ensures) at (c .before .before .before .judge .ensures)) ∙ c .before .r .given .1 in
+    let f = c .before .before .before .before .fits-written .ensures in
+    let q = rw (f) at (c .before .before .before .judge .ensures) in
+    let j = sym (judged-same _ _ q) ∙ c .before .r .given .1 in
     let a = no-body (s .kinds) (s .kind) (s .tag) (s .payload .now) (s .dst .now) j in
-    (sym (a .0), sym (a .1))
+    (ap writtenSays (sym (a .0)), sym (a .1))
 
 pub build-spec : {M : Type 1} → statement M
 build-spec =
