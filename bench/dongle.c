@@ -108,9 +108,9 @@ static struct count leave(struct count c)
 /* A packet is taken. */
 static struct count hear(struct count c, const struct bytes *bytes)
 {
-    const struct donglora_heard heard = {-820, 95, -125, 4242, 1};
+    const struct donglora_packet_status status = {-820, 95, -125, 4242, 1};
 
-    donglora_packet(control, heard, bytes->at, bytes->len, packets, sizeof out, &answer);
+    donglora_packet(control, status, bytes->at, bytes->len, packets, sizeof out, &answer);
     return add(c);
 }
 

@@ -2,7 +2,7 @@
  * range: an antenna range, simulated. One dongle stands on a turntable with the antenna and sends,
  * one on a mast receives, and a host drives both and writes the antenna's pattern.
  *
- *   range            prints the pattern table of a sweep, after the story of what befell it
+ *   range            prints the faults of a sweep, and then its pattern table
  *   range PLOT.svg   also writes the pattern to that file, as a polar plot
  *
  * Both dongles are the library, called as a board's main loop calls it. The host has their bytes and

@@ -352,10 +352,10 @@ void donglora_fault(uint64_t control[DONGLORA_CONTROL], const uint8_t commands[D
                     size_t out_len, struct donglora_answer *answer);
 
 /*
- * What the radio has heard of a packet. A struct, since rssi and snr are numbers of one type that
+ * The status of a received packet. A struct, since rssi and snr are numbers of one type that
  * could change places in a list of arguments.
  */
-struct donglora_heard {
+struct donglora_packet_status {
     int16_t rssi;          /* tenths of dBm */
     int16_t snr;           /* tenths of dB */
     int32_t freq_err;      /* Hz */
@@ -364,8 +364,8 @@ struct donglora_heard {
 };
 
 /* The radio has received a packet. One over 255 bytes is cut, and counts as one whose CRC failed. */
-void donglora_packet(uint64_t control[DONGLORA_CONTROL], struct donglora_heard heard, const uint8_t *bytes, size_t len,
-                     uint8_t packets[DONGLORA_PACKETS], size_t out_len, struct donglora_answer *answer);
+void donglora_packet(uint64_t control[DONGLORA_CONTROL], struct donglora_packet_status status, const uint8_t *bytes,
+                     size_t len, uint8_t packets[DONGLORA_PACKETS], size_t out_len, struct donglora_answer *answer);
 
 /* The host can take a packet: the oldest that is held is written, as an RX, or nothing. */
 void donglora_request(uint64_t control[DONGLORA_CONTROL], uint8_t packets[DONGLORA_PACKETS], uint8_t *out,

@@ -199,16 +199,16 @@ static void check_ends(void)
 /* Reception: a ring of 64, of which the 65th packet loses one; 999 ticks leave a session, and 1000 end it. */
 static void check_reception(void)
 {
-    struct donglora_heard heard = {-820, 50, -3, 123456, 1};
+    struct donglora_packet_status status = {-820, 50, -3, 123456, 1};
     uint8_t body[DONGLORA_ENCODED_MAX], packet[256] = {0x2A};
     struct donglora_rx rx;
 
     configured();
-    REFUSES(donglora_packet(control, heard, packet, 1, packets, sizeof out, &answer), DONGLORA_PLACE);
+    REFUSES(donglora_packet(control, status, packet, 1, packets, sizeof out, &answer), DONGLORA_PLACE);
     command(DONGLORA_RX_START, 2, NULL, 0);
     CHECK(told(DONGLORA_OK, 2, 0) && answer.order == DONGLORA_RECEIVE);
     for (int i = 0; i < 65; i++)
-        donglora_packet(control, heard, packet, i == 1 ? 256 : 1, packets, sizeof out, &answer);
+        donglora_packet(control, status, packet, i == 1 ? 256 : 1, packets, sizeof out, &answer);
     donglora_request(control, packets, out, sizeof out, &answer);
     rx = donglora_read_rx(out, (size_t)answer.written - 1, body, sizeof body);
     CHECK(rx.number == DONGLORA_TAKEN && rx.packets_dropped == 1 && rx.rssi == -820 && rx.snr == 50);
@@ -229,13 +229,13 @@ static void check_reception(void)
 /* A packet of no bytes may have no pointer. */
 static void check_null(void)
 {
-    struct donglora_heard heard = {0, 0, 0, 0, 255};
+    struct donglora_packet_status status = {0, 0, 0, 0, 255};
     uint8_t body[DONGLORA_ENCODED_MAX];
     struct donglora_rx rx;
 
     configured();
     command(DONGLORA_RX_START, 2, NULL, 0);
-    donglora_packet(control, heard, NULL, 0, packets, sizeof out, &answer);
+    donglora_packet(control, status, NULL, 0, packets, sizeof out, &answer);
     CHECK(answer.number == DONGLORA_TAKEN);
     donglora_request(control, packets, out, sizeof out, &answer);
     rx = donglora_read_rx(out, (size_t)answer.written - 1, body, sizeof body);

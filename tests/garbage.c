@@ -299,7 +299,7 @@ static void call_event(size_t room)
     struct donglora_answer *a = (struct donglora_answer *)(void *)answer.at;
     uint8_t *to = room == 0 && below(2) == 0 ? NULL : out.at;
     const uint8_t *from = bytes.len == 0 && below(2) == 0 ? NULL : bytes.at;
-    struct donglora_heard heard;
+    struct donglora_packet_status status;
     switch (event) {
     case BYTE: donglora_byte(c, next_byte(), run.at, commands.at, to, room, a); break;
     case TICK: donglora_tick(c, room, a); break;
@@ -310,12 +310,12 @@ static void call_event(size_t room)
     case CONFIGURED: donglora_configured(c, commands.at, to, room, a); break;
     case FAULT: donglora_fault(c, commands.at, to, room, a); break;
     case PACKET:
-        heard.rssi = (int16_t)below(0x8000);
-        heard.snr = (int16_t)-(int)below(0x8000);
-        heard.freq_err = (int32_t)below(0x10000);
-        heard.timestamp_us = draw();
-        heard.crc_valid = (uint8_t)draw();
-        donglora_packet(c, heard, from, bytes.len, packets.at, room, a);
+        status.rssi = (int16_t)below(0x8000);
+        status.snr = (int16_t)-(int)below(0x8000);
+        status.freq_err = (int32_t)below(0x10000);
+        status.timestamp_us = draw();
+        status.crc_valid = (uint8_t)draw();
+        donglora_packet(c, status, from, bytes.len, packets.at, room, a);
         break;
     default: donglora_request(c, packets.at, to, room, a); break;
     }

@@ -39,7 +39,7 @@ enum kind {
 struct item {
     enum kind kind;
     uint64_t n;                  /* TICK, ROOM: how many; SENT: the airtime */
-    struct donglora_heard heard; /* PACKET */
+    struct donglora_packet_status status; /* PACKET */
     size_t len;                  /* BYTE, PACKET: how many of `bytes` the line has */
 };
 
@@ -171,11 +171,11 @@ static int packet(struct text rest, struct item *item)
         || !signed_decimal(next(&rest), 0x80000000, &freq_err) || !decimal(next(&rest), UINT64_MAX, &time)
         || !decimal(next(&rest), 1, &crc))
         return 0;
-    item->heard.rssi = (int16_t)rssi;
-    item->heard.snr = (int16_t)snr;
-    item->heard.freq_err = (int32_t)freq_err;
-    item->heard.timestamp_us = time;
-    item->heard.crc_valid = (uint8_t)crc;
+    item->status.rssi = (int16_t)rssi;
+    item->status.snr = (int16_t)snr;
+    item->status.freq_err = (int32_t)freq_err;
+    item->status.timestamp_us = time;
+    item->status.crc_valid = (uint8_t)crc;
     return all_bytes(rest, &item->len);
 }
 
@@ -282,7 +282,7 @@ static void step(const struct item *item, uint8_t b)
     case SENT: donglora_sent(control, (uint32_t)item->n, commands, out, room, &a); break;
     case CONFIGURED: donglora_configured(control, commands, out, room, &a); break;
     case FAULT: donglora_fault(control, commands, out, room, &a); break;
-    case PACKET: donglora_packet(control, item->heard, bytes, item->len, packets, room, &a); break;
+    case PACKET: donglora_packet(control, item->status, bytes, item->len, packets, room, &a); break;
     case REQUEST: donglora_request(control, packets, out, room, &a); break;
     case DISCONNECT: donglora_disconnect(control, room, &a); break;
     default: return;

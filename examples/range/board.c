@@ -31,9 +31,9 @@ static void follow(struct board *b, const struct donglora_answer *answer)
 static void tell_packet(struct board *b, uint64_t now_us, struct donglora_answer *answer)
 {
     const struct carried *c = b->radio.received;
-    struct donglora_heard heard = {.rssi = c->rssi, .snr = c->snr, .timestamp_us = now_us, .crc_valid = 1};
+    struct donglora_packet_status status = {.rssi = c->rssi, .snr = c->snr, .timestamp_us = now_us, .crc_valid = 1};
 
-    donglora_packet(b->control, heard, c->packet, sizeof c->packet, b->packets, sizeof b->out, answer);
+    donglora_packet(b->control, status, c->packet, sizeof c->packet, b->packets, sizeof b->out, answer);
 }
 
 /* Tells the library what the radio has come to. A byte that was refused may then be offered again. */

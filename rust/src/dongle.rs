@@ -91,9 +91,9 @@ pub struct Answer<'a> {
     pub order: Order<'a>,
 }
 
-/// What the radio has heard of a packet.
+/// The status of a received packet.
 #[derive(Clone, Copy, Debug, PartialEq, Eq)]
-pub struct Heard {
+pub struct PacketStatus {
     /// The level, in tenths of dBm.
     pub rssi: i16,
     /// The signal-to-noise ratio, in tenths of dB.
@@ -216,15 +216,15 @@ impl Dongle {
     /// # Errors
     ///
     /// [`Refusal::Place`] where the dongle doesn't receive, or the radio is not free.
-    pub fn packet(&mut self, heard: Heard, bytes: &[u8]) -> Result<Answer<'_>, Refusal> {
-        let heard = ffi::Heard {
-            rssi: heard.rssi,
-            snr: heard.snr,
-            freq_err: heard.freq_err,
-            timestamp_us: heard.timestamp_us,
-            crc_valid: heard.crc_valid.into(),
+    pub fn packet(&mut self, status: PacketStatus, bytes: &[u8]) -> Result<Answer<'_>, Refusal> {
+        let status = ffi::PacketStatus {
+            rssi: status.rssi,
+            snr: status.snr,
+            freq_err: status.freq_err,
+            timestamp_us: status.timestamp_us,
+            crc_valid: status.crc_valid.into(),
         };
-        let said = ffi::packet(&mut self.control, heard, bytes, &mut self.packets, OUT);
+        let said = ffi::packet(&mut self.control, status, bytes, &mut self.packets, OUT);
         self.answer(&said, &[])
     }
 

@@ -53,9 +53,9 @@ pub(crate) struct Answer {
     pub(crate) listen: u64,
 }
 
-/// struct donglora_heard
+/// struct donglora_packet_status
 #[repr(C)]
-pub(crate) struct Heard {
+pub(crate) struct PacketStatus {
     pub(crate) rssi: i16,
     pub(crate) snr: i16,
     pub(crate) freq_err: i32,
@@ -146,7 +146,7 @@ extern "C" {
     );
     fn donglora_packet(
         control: *mut u64,
-        heard: Heard,
+        status: PacketStatus,
         bytes: *const u8,
         len: usize,
         packets: *mut u8,
@@ -308,7 +308,7 @@ pub(crate) fn fault(control: &mut Control, commands: &[u8; COMMANDS], out: &mut 
 
 pub(crate) fn packet(
     control: &mut Control,
-    heard: Heard,
+    status: PacketStatus,
     bytes: &[u8],
     packets: &mut [u8; PACKETS],
     room: usize,
@@ -318,7 +318,7 @@ pub(crate) fn packet(
     let (from, len) = (bytes.as_ptr(), bytes.len());
     // SAFETY: the arrays have the header's sizes, the packet is a slice that is only read, and none
     // overlaps a mutable one. The answer is on this stack.
-    unsafe { donglora_packet(control, heard, from, len, packets, room, &mut answer) }
+    unsafe { donglora_packet(control, status, from, len, packets, room, &mut answer) }
     answer
 }
 

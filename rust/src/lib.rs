@@ -114,7 +114,7 @@ mod refusal;
 mod tests;
 
 pub use codec::{cobs_decode, cobs_encode, crc16, encoded_room, BODY_MAX, ENCODED_MAX};
-pub use dongle::{Answer, Dongle, Heard, Order, Output, OUT};
+pub use dongle::{Answer, Dongle, Order, Output, PacketStatus, OUT};
 pub use message::{
     frame_room, read_answer, read_rx, read_tx_done, write_command, Command, Kind, Message, Origin,
     Outcome, Rx, TxDone, PAYLOAD, PAYLOAD_MAX, RX_PACKET,

@@ -10,8 +10,8 @@ use borrow.Author.Tests.{eq-eqb, eqb-true}
 use lib.Dec.{ltb, eqb}
 use lib.ListN.{length, drop, length-drop, take-append-drop}
 use Rattle.buffer.specs.Lay.{lay}
-use Rattle.numbers.specs.declared.Refusal.the-variants as R
-use Rattle.numbers.proofs.Laws.{same-by, refusal-back, answerBy}
+use Rattle.status.specs.declared.Refusal.the-variants as R
+use Rattle.status.proofs.Laws.{same-by, refusal-back, answerBy}
 use Rattle.scalar.specs.Scalars.{le, column, get}
 use Rattle.scalar.proofs.Laws.{number-le}
 use Rattle.form.specs.Forms.{exactly, atLeast}
@@ -28,7 +28,7 @@ use Rattle.info.proofs.Laws.{info-back, info-form-back, info-size, length-info,
 use Rattle.rx.specs.Rx.{rxForm, rxBytes}
 use Rattle.rx.proofs.Laws.{packet-back, rx-back, rx-size}
 use Rattle.answer.specs.Answers.{configuredForm, configuredOf, configuredBytes, txDoneForm, txDoneBytes, okForm, answerForm, answerOf}
-use Rattle.answer.specs.Answers.{readAnswer, answeredSays, answerKind, answerName, Names, answerBytes, answerTail}
+use Rattle.answer.specs.Answers.{readAnswer, answeredResult, answerKind, answerName, MayAnswer, answerBytes, answerTail}
 use Rattle.answer.specs.Ranges.{AnswerIn}
 use Rattle.answer.specs.declared.Answer.{Answer}
 use Rattle.answer.specs.declared.Answer.the-variants as A
@@ -121,13 +121,13 @@ answer-long a bs h = refuted _ (λ e. omega (arith, answer-most a bs e))
 
 -- ---- what reading answers
 
-answered-back : (a : Answered) → answerBy D.Answer D.Refused (answeredSays a) ≡ a
+answered-back : (a : Answered) → answerBy D.Answer D.Refused (answeredResult a) ≡ a
 answered-back (D.Answer a) = refl
 answered-back (D.Refused r) = ap D.Refused (refusal-back r)
 
 -- it is told by its number and its answer
-pub answered-same : (a b : Answered) → answeredSays a ≡ answeredSays b → a ≡ b
-answered-same = same-by answeredSays (answerBy D.Answer D.Refused) answered-back
+pub answered-same : (a b : Answered) → answeredResult a ≡ answeredResult b → a ≡ b
+answered-same = same-by answeredResult (answerBy D.Answer D.Refused) answered-back
 
 -- ---- read back
 
@@ -181,7 +181,7 @@ answer-tail (A.TxDone x t) r bs e = refl
 
 -- ---- with each command that an answer may be read with
 
-named : (a : Answer) (n : Name) → Names a n → (p : List ℕ)
+named : (a : Answer) (n : Name) → MayAnswer a n → (p : List ℕ)
     → (answerForm (answerKind a) n p ≡ answerForm (answerKind a) (answerName a) p)
     × (answerOf (answerKind a) n p ≡ answerOf (answerKind a) (answerName a) p)
     × (answerTail (answerKind a) n p ≡ answerTail (answerKind a) (answerName a) p)
@@ -208,7 +208,7 @@ named (A.Err c) n h p = (refl, refl, refl)
 named (A.Rx m) n h p = (refl, refl, refl)
 named (A.TxDone r t) n h p = (refl, refl, refl)
 
-module _ (a : Answer) (n : Name) (h : Names a n) (p : List ℕ) where
+module _ (a : Answer) (n : Name) (h : MayAnswer a n) (p : List ℕ) where
   pub form-named : answerForm (answerKind a) n p ≡ answerForm (answerKind a) (answerName a) p
   form-named = named a n h p .0
 

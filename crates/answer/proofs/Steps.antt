@@ -60,13 +60,13 @@ configured-there p e = (long, rest (configForm (drop 2 p)) refl)
     rest F.Wrong q = absurd (true≢false (sym (tested F.Wrong (rw q at e))))
 
 -- the OK to every command but GET_INFO and SET_CONFIG is empty
-abbrev bare : List ℕ
-bare = 0 ∷ 3 ∷ 4 ∷ 5 ∷ []
+abbrev without-payload : List ℕ
+without-payload = 0 ∷ 3 ∷ 4 ∷ 5 ∷ []
 
-pub empty-ok : (n : Name) (p : List ℕ) → OneOf bare (tagOf the-type n) → (F.Size 0 ≡ okForm n p) × (A.Ok ≡ okOf n p)
+pub empty-ok : (n : Name) (p : List ℕ) → OneOf without-payload (tagOf the-type n) → (F.Size 0 ≡ okForm n p) × (A.Ok ≡ okOf n p)
 empty-ok N.Ping p k = (refl, refl)
-empty-ok N.GetInfo p k = absurd (miss bare 1 tt k)
-empty-ok N.SetConfig p k = absurd (miss bare 2 tt k)
+empty-ok N.GetInfo p k = absurd (miss without-payload 1 tt k)
+empty-ok N.SetConfig p k = absurd (miss without-payload 2 tt k)
 empty-ok N.Tx p k = (refl, refl)
 empty-ok N.RxStart p k = (refl, refl)
 empty-ok N.RxStop p k = (refl, refl)

@@ -6,9 +6,9 @@ use mathlib.Core.Bool.{cond}
 use mathlib.Core.List.{List, _++_}
 use lib.Dec.{ltb, eqb}
 use lib.ListN.{length, replicate, drop}
-use Rattle.numbers.specs.Refusals.{refusalNumber}
-use Rattle.numbers.specs.Came.{Came, took, refusedWith}
-use Rattle.numbers.specs.declared.Refusal.the-variants as R
+use Rattle.status.specs.Refusals.{refusalNumber}
+use Rattle.status.specs.Result.{Result, took, refusedWith}
+use Rattle.status.specs.declared.Refusal.the-variants as R
 use Rattle.scalar.specs.Scalars.{Column, column, get, put}
 use Rattle.form.specs.Forms.{atLeast}
 use Rattle.modulation.specs.Modulations.{configForm, configOf, configBytes, syncWord}
@@ -69,8 +69,8 @@ errSize = 2
 abbrev pub done-result : Column
 done-result = column 0 1
 
-abbrev pub airtime-us : Column
-airtime-us = column 1 4
+abbrev pub «airtime_us» : Column
+«airtime_us» = column 1 4
 
 abbrev pub txDoneSize : ℕ
 txDoneSize = 5
@@ -86,7 +86,7 @@ txDoneForm p =
     (F.Size txDoneSize))
 
 unfoldable pub txDoneBytes : ℕ → ℕ → List ℕ
-txDoneBytes r t = put done-result r (put airtime-us t (replicate txDoneSize 0))
+txDoneBytes r t = put done-result r (put «airtime_us» t (replicate txDoneSize 0))
 
 -- P 6.7: the form of an OK's payload depends on the command that it answers
 abbrev pub okForm : Name → List ℕ → Form
@@ -119,7 +119,7 @@ answerOf kind name p =
     cond (eqb kind OK) (okOf name p)
     (cond (eqb kind ERR) (A.Err (get code p))
     (cond (eqb kind RX) (A.Rx (rxOf p))
-    (A.TxDone (get done-result p) (get airtime-us p))))
+    (A.TxDone (get done-result p) (get «airtime_us» p))))
 
 -- What reading a payload answers: TYPE, then FORM. The host ignores bytes after the known fields (01; P 16.4).
 unfoldable pub readAnswer : ℕ → Name → List ℕ → Answered
@@ -129,9 +129,9 @@ readAnswer kind name p =
     (D.Refused R.Type)
 
 -- what comes back: 01's number, and the answer
-abbrev pub answeredSays : Answered → Came Answer
-answeredSays (D.Answer a) = took a
-answeredSays (D.Refused r) = refusedWith (refusalNumber r)
+abbrev pub answeredResult : Answered → Result Answer
+answeredResult (D.Answer a) = took a
+answeredResult (D.Refused r) = refusedWith (refusalNumber r)
 
 -- the type of an answer
 abbrev pub answerKind : Answer → ℕ
@@ -152,28 +152,28 @@ answerName (A.Rx m) = N.Ping
 answerName (A.TxDone r t) = N.Ping
 
 -- the commands that an answer may be read with: an OK with those that have such an OK, and the others with every one
-abbrev pub Names : Answer → Name → Type 0
-Names A.Ok N.Ping = Unit {0}
-Names A.Ok N.GetInfo = ⊥
-Names A.Ok N.SetConfig = ⊥
-Names A.Ok N.Tx = Unit {0}
-Names A.Ok N.RxStart = Unit {0}
-Names A.Ok N.RxStop = Unit {0}
-Names (A.Info m) N.Ping = ⊥
-Names (A.Info m) N.GetInfo = Unit {0}
-Names (A.Info m) N.SetConfig = ⊥
-Names (A.Info m) N.Tx = ⊥
-Names (A.Info m) N.RxStart = ⊥
-Names (A.Info m) N.RxStop = ⊥
-Names (A.Configured m) N.Ping = ⊥
-Names (A.Configured m) N.GetInfo = ⊥
-Names (A.Configured m) N.SetConfig = Unit {0}
-Names (A.Configured m) N.Tx = ⊥
-Names (A.Configured m) N.RxStart = ⊥
-Names (A.Configured m) N.RxStop = ⊥
-Names (A.Err c) n = Unit {0}
-Names (A.Rx m) n = Unit {0}
-Names (A.TxDone r t) n = Unit {0}
+abbrev pub MayAnswer : Answer → Name → Type 0
+MayAnswer A.Ok N.Ping = Unit {0}
+MayAnswer A.Ok N.GetInfo = ⊥
+MayAnswer A.Ok N.SetConfig = ⊥
+MayAnswer A.Ok N.Tx = Unit {0}
+MayAnswer A.Ok N.RxStart = Unit {0}
+MayAnswer A.Ok N.RxStop = Unit {0}
+MayAnswer (A.Info m) N.Ping = ⊥
+MayAnswer (A.Info m) N.GetInfo = Unit {0}
+MayAnswer (A.Info m) N.SetConfig = ⊥
+MayAnswer (A.Info m) N.Tx = ⊥
+MayAnswer (A.Info m) N.RxStart = ⊥
+MayAnswer (A.Info m) N.RxStop = ⊥
+MayAnswer (A.Configured m) N.Ping = ⊥
+MayAnswer (A.Configured m) N.GetInfo = ⊥
+MayAnswer (A.Configured m) N.SetConfig = Unit {0}
+MayAnswer (A.Configured m) N.Tx = ⊥
+MayAnswer (A.Configured m) N.RxStart = ⊥
+MayAnswer (A.Configured m) N.RxStop = ⊥
+MayAnswer (A.Err c) n = Unit {0}
+MayAnswer (A.Rx m) n = Unit {0}
+MayAnswer (A.TxDone r t) n = Unit {0}
 
 -- its payload, with its bytes of variable length
 unfoldable pub answerBytes : Answer → List ℕ → List ℕ

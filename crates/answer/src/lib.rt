@@ -3,7 +3,8 @@ ghost use mathlib.Core.Path.{_≡_};
 ghost use mathlib.Core.Bool.{true};
 ghost use lib.ListN.{length};
 ghost use Rattle.form.specs.Forms.{atLeast};
-ghost use Rattle.answer.specs.Answers.{answeredSays, answerForm, answerOf, answerKind, answerName, configuredForm, okForm, okOf, readAnswer, txDoneForm};
+ghost use Rattle.answer.specs.Answers.{answeredResult, answerForm, answerOf, answerKind, answerName, configuredForm, okForm, okOf, readAnswer};
+ghost use Rattle.answer.specs.Answers.{txDoneForm};
 use form::Form;
 use info::Info;
 use kind::ERR;
@@ -12,8 +13,8 @@ use kind::OK;
 use kind::RX;
 use kind::TX_DONE;
 use modulation::Modulation;
-use numbers::Refusal;
 use rx::Rx;
+use status::Refusal;
 
 // The bytes of an OK to SET_CONFIG before the configuration: P 6.3.
 pub const CONFIGURED_SIZE: usize = 2;
@@ -55,7 +56,7 @@ pub enum Answered {
 
 // Reads a payload of some type as an answer; an OK as that to the command of this name.
 pub fn read_answer(kind: u8, name: Name, payload: &[u8]) -> Answered
-    ensures { λ r. ⌜ answeredSays r ≡ answeredSays (readAnswer kind name (now (payload .entry))) ⌝ }
+    ensures { λ r. ⌜ answeredResult r ≡ answeredResult (readAnswer kind name (now (payload .entry))) ⌝ }
 {
     if kind::is_answer(kind) {
         if form::at_least(answer_form(kind, name, payload), payload.len()) {

@@ -61,8 +61,8 @@ sx1262 =
     }
 
 -- what a board says of itself (P 6.2): protocol 1.0, firmware 0.1.0, and its profile
-unfoldable pub infoOf : Board → Info
-infoOf b =
+unfoldable pub boardInfo : Board → Info
+boardInfo b =
     record {
       «proto_major» = 1;
       «proto_minor» = 0;

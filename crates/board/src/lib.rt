@@ -3,7 +3,7 @@
 ghost use mathlib.Core.Path.{_≡_};
 ghost use lib.ListN.{getD};
 ghost use Rattle.info.specs.Info.{infoBytes};
-ghost use Rattle.board.specs.Board.{sx1262, infoOf, uidsOf};
+ghost use Rattle.board.specs.Board.{sx1262, boardInfo, uidsOf};
 ghost use Rattle.board.specs.Ldro.{bandwidths, slow};
 ghost use Rattle.board.specs.Params.{freqGood, loraGood, fskGood, paramsGood};
 use form::YES;
@@ -106,7 +106,7 @@ pub fn params_good(m: Modulation) -> bool
 
 // What the board says of itself: the payload of the OK to GET_INFO, P C.2.2.
 pub fn info() -> [u8; BOARD_INFO_SIZE]
-    ensures { λ r. ⌜ r ≡ infoBytes (infoOf sx1262) (uidsOf sx1262) ⌝ }
+    ensures { λ r. ⌜ r ≡ infoBytes (boardInfo sx1262) (uidsOf sx1262) ⌝ }
 {
     [
         0x01,

@@ -5,8 +5,8 @@ use mathlib.Core.List.{List}
 use Prim.Native.Nat.{ℕ, _-_}
 use lib.Dec.{ltb, eqb}
 use lib.ListN.{length}
-use Rattle.numbers.specs.declared.Refusal.{Refusal}
-use Rattle.numbers.specs.declared.Refusal.the-variants as R
+use Rattle.status.specs.declared.Refusal.{Refusal}
+use Rattle.status.specs.declared.Refusal.the-variants as R
 use Rattle.crc16.specs.Crc.{crcOf}
 use Rattle.cobs.specs.Decoding.{broken, decoded}
 use Rattle.cobs.specs.Answers.{bodyMax, encodedMax}

@@ -10,11 +10,11 @@ use Rattle.buffer.specs.Lay.{lay}
 use Rattle.buffer.proofs.Laws.{next as next-byte, no-more}
 use Rattle.buffer.proofs.Laying.{Laying, start, done, fits}
 use Rattle.line.specs.Lines.{lineMax}
-use Rattle.capture.specs.Stream.{keep, lineRun, Place, next, after, adds}
+use Rattle.capture.specs.Stream.{keep, lineRun, RunSoFar, next, afterBytes, adds}
 use Rattle.text.proofs.Writing.{wrote}
 use Rattle.capture.proofs.Lengths.{length-adds}
 
-abbrev pub place : ℕ → ℕ → List ℕ → Place
+abbrev pub place : ℕ → ℕ → List ℕ → RunSoFar
 place at len kept = record { at = at; len = len; kept = kept }
 
 module _ (at len : ℕ) (kept : List ℕ) (b : ℕ) where
@@ -30,7 +30,7 @@ pub record Feeding (piece kept₀ dst₀ : List ℕ) (at₀ len₀ filled₀ : �
   pub within : i ≤ length piece
   pub count : at + len ≡ at₀ + len₀ + i
   pub long : length kept ≡ length kept₀
-  pub leads : after (place at len kept) (drop i piece) ≡ after (place at₀ len₀ kept₀) piece
+  pub leads : afterBytes (place at len kept) (drop i piece) ≡ afterBytes (place at₀ len₀ kept₀) piece
   pub laying : Laying filled₀ (adds (place at₀ len₀ kept₀) piece) dst₀ filled (adds (place at len kept) (drop i piece)) dst
 
 module _ (piece kept₀ dst₀ : List ℕ) (at₀ len₀ filled₀ : ℕ) where
@@ -57,12 +57,12 @@ module _ {piece kept₀ dst₀ : List ℕ} {at₀ len₀ filled₀ : ℕ} {kept 
   pub zero : {r : ℕ} {e : List ℕ} → i < length piece → getD piece i 0 ≡ 0
       → (r ≡ filled + length (lineRun at len kept)) × (e ≡ lay filled (lineRun at len kept) dst)
       → Feeding piece kept₀ dst₀ at₀ len₀ filled₀ kept e (at + len + 1) 0 r (i + 1)
-  unfolding adds after
+  unfolding adds afterBytes
   zero h z w =
       let b = getD piece i 0 in
       let n = next-zero at len kept b z in
       let l = rw (next-byte piece i h) at (f .laying) in
-      let g : after (next (place at len kept) b) (drop (i + 1) piece) ≡ after (place at₀ len₀ kept₀) piece
+      let g : afterBytes (next (place at len kept) b) (drop (i + 1) piece) ≡ afterBytes (place at₀ len₀ kept₀) piece
       = rw (next-byte piece i h) at (f .leads) in
       record {
         within = omega arith;
@@ -76,12 +76,12 @@ module _ {piece kept₀ dst₀ : List ℕ} {at₀ len₀ filled₀ : ℕ} {kept 
   pub kept-on : {k : List ℕ} → i < length piece → (getD piece i 0 ≡ 0 → ⊥)
       → k ≡ keep len (getD piece i 0) kept → length k ≡ length kept
       → Feeding piece kept₀ dst₀ at₀ len₀ filled₀ k dst at (len + 1) filled (i + 1)
-  unfolding adds after
+  unfolding adds afterBytes
   kept-on h z w m =
       let b = getD piece i 0 in
       let n = next-other at len kept b z in
       let l = rw (next-byte piece i h) at (f .laying) in
-      let g : after (next (place at len kept) b) (drop (i + 1) piece) ≡ after (place at₀ len₀ kept₀) piece
+      let g : afterBytes (next (place at len kept) b) (drop (i + 1) piece) ≡ afterBytes (place at₀ len₀ kept₀) piece
       = rw (next-byte piece i h) at (f .leads) in
       record {
         within = omega arith;
@@ -93,10 +93,10 @@ module _ {piece kept₀ dst₀ : List ℕ} {at₀ len₀ filled₀ : ℕ} {kept 
 
   -- the end of the piece
   pub ends : length piece ≤ i
-      → (place at len kept ≡ after (place at₀ len₀ kept₀) piece)
+      → (place at len kept ≡ afterBytes (place at₀ len₀ kept₀) piece)
       × (filled ≡ filled₀ + length (adds (place at₀ len₀ kept₀) piece))
       × (dst ≡ lay filled₀ (adds (place at₀ len₀ kept₀) piece) dst₀)
-  unfolding adds after
+  unfolding adds afterBytes
   ends h =
       let l = rw (no-more piece i h) at (f .laying) in
       (rw (no-more piece i h) at (f .leads), omega (arith, l .size), done l)

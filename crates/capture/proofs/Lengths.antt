@@ -9,7 +9,7 @@ use lib.Dec.{eqb, lit≤}
 use lib.ListN.{length, length-append}
 use Rattle.line.specs.Lines.{lineMax}
 use Rattle.line.proofs.Lengths.{length-line}
-use Rattle.capture.specs.Stream.{openRun, lineRun, Place, next, after, adds, placeOf, fed}
+use Rattle.capture.specs.Stream.{openRun, lineRun, RunSoFar, next, afterBytes, adds, runSoFar, fed}
 use Rattle.capture.specs.declared.Stream.{Stream}
 
 or-none : (t : Bool) (a b : List ℕ) → length a ≤ lineMax → length b ≤ lineMax → length (cond t a b) ≤ lineMax
@@ -20,15 +20,15 @@ length-run : (at n : ℕ) (kept : List ℕ) → length (lineRun at n kept) ≤ l
 unfolding lineRun
 length-run at n kept = or-none (eqb n 0) [] _ (lit≤ tt) (length-line at (openRun n kept) n)
 
-pub length-adds : (p : Place) (bs : List ℕ) → length (adds p bs) ≤ lineMax * length bs
+pub length-adds : (p : RunSoFar) (bs : List ℕ) → length (adds p bs) ≤ lineMax * length bs
 unfolding adds
 length-adds p [] = lit≤ tt
 length-adds p (b ∷ bs) =
     let h = or-none (eqb b 0) (lineRun (p .at) (p .len) (p .kept)) [] (length-run (p .at) (p .len) (p .kept)) (lit≤ tt) in
     simp length-append (omega (arith, h, length-adds (next p b) bs))
 
-goes-on : (p : Place) (bs : List ℕ) → after p bs .at + after p bs .len ≡ p .at + p .len + length bs
-unfolding after next
+goes-on : (p : RunSoFar) (bs : List ℕ) → afterBytes p bs .at + afterBytes p bs .len ≡ p .at + p .len + length bs
+unfolding afterBytes next
 goes-on p [] = omega arith
 goes-on p (b ∷ bs) = goes-on (next p b) bs ∙ go (eqb b 0)
   where
@@ -40,8 +40,8 @@ goes-on p (b ∷ bs) = goes-on (next p b) bs ∙ go (eqb b 0)
 module _ (r s : Stream) (kept piece : List ℕ) (e : r ≡ fed s kept piece) where
   pub fed-goes-on : r .at + r .len ≡ s .at + s .len + length piece
   unfolding fed
-  fed-goes-on = ap (λ (t : Stream). t .at + t .len) e ∙ goes-on (placeOf s kept) piece
+  fed-goes-on = ap (λ (t : Stream). t .at + t .len) e ∙ goes-on (runSoFar s kept) piece
 
   pub fed-fills : r .filled ≤ s .filled + lineMax * length piece
   unfolding fed
-  fed-fills = omega (arith, ap (λ (t : Stream). t .filled) e, length-adds (placeOf s kept) piece)
+  fed-fills = omega (arith, ap (λ (t : Stream). t .filled) e, length-adds (runSoFar s kept) piece)

@@ -12,7 +12,7 @@ use borrow.Author.Tests.{lt-ltb, le-ltb, ne-eqb}
 use lib.Dec.{ltb, eqb}
 use lib.ListN.{length, take, set, length-append, length-take, length-set}
 use lib.Seq.{take-at, take-suc-set}
-use Rattle.numbers.specs.declared.Refusal.the-variants as R
+use Rattle.status.specs.declared.Refusal.the-variants as R
 use Rattle.buffer.specs.Lay.{lay}
 use Rattle.buffer.proofs.Deciding.{le-or-lt}
 use Rattle.cobs.specs.Answers.{encodedMax}
@@ -20,7 +20,7 @@ use Rattle.frame.specs.Reading.{openAnswer}
 use Rattle.frame.specs.declared.Opened.the-variants as O
 use Rattle.line.specs.Lines.{line}
 use Rattle.capture.specs.Listing.{heading, lineOf, lines, listing}
-use Rattle.capture.specs.Stream.{keep, openRun, lineRun, Place, next, after, adds, addsAll, placeOf, started, fed}
+use Rattle.capture.specs.Stream.{keep, openRun, lineRun, RunSoFar, next, afterBytes, adds, addsAll, runSoFar, startStream, fed}
 use Rattle.capture.specs.declared.Stream.{Stream}
 use Rattle.capture.proofs.Feeding.{place}
 
@@ -89,36 +89,36 @@ adds-lines at kept run (b ∷ bs) h = go (eqb b 0) (λ (a : ℕ) (k r : List ℕ
         rw n at (ih at (keep (length run) b kept) (run ++ (b ∷ [])) (holds-more kept run b h))
 
 -- bytes after bytes
-adds-append : (p : Place) (a b : List ℕ) → adds p (a ++ b) ≡ adds p a ++ adds (after p a) b
-unfolding adds after
+adds-append : (p : RunSoFar) (a b : List ℕ) → adds p (a ++ b) ≡ adds p a ++ adds (afterBytes p a) b
+unfolding adds afterBytes
 adds-append p [] b = refl
 adds-append p (x ∷ a) b =
     let first = cond (eqb x 0) (lineRun (p .at) (p .len) (p .kept)) [] in
     ap (λ (l : List ℕ). first ++ l) (adds-append (next p x) a b)
-    ∙ sym (append-assoc first (adds (next p x) a) (adds (after (next p x) a) b))
+    ∙ sym (append-assoc first (adds (next p x) a) (adds (afterBytes (next p x) a) b))
 
-adds-all : (p : Place) (pieces : List (List ℕ)) → addsAll p pieces ≡ adds p (flatten pieces)
+adds-all : (p : RunSoFar) (pieces : List (List ℕ)) → addsAll p pieces ≡ adds p (flatten pieces)
 unfolding addsAll flatten adds
 adds-all p [] = refl
-adds-all p (x ∷ xs) = ap (λ (l : List ℕ). adds p x ++ l) (adds-all (after p x) xs) ∙ sym (adds-append p x (flatten xs))
+adds-all p (x ∷ xs) = ap (λ (l : List ℕ). adds p x ++ l) (adds-all (afterBytes p x) xs) ∙ sym (adds-append p x (flatten xs))
 
 -- A call of `feed` leaves the place after its piece, and the next one starts there. How far the output is filled does not matter to it.
 pub fed-place : (s : Stream) (kept piece : List ℕ)
-    → placeOf (fed s kept piece) (after (placeOf s kept) piece .kept) ≡ after (placeOf s kept) piece
+    → runSoFar (fed s kept piece) (afterBytes (runSoFar s kept) piece .kept) ≡ afterBytes (runSoFar s kept) piece
 unfolding fed
 fed-place s kept piece = refl
 
 -- The theorem: from the start, in memory with room for 282 bytes, the pieces of a capture add the lines of its listing after the heading.
 pub listed : (kept : List ℕ) (pieces : List (List ℕ)) → encodedMax ≤ length kept
-    → heading ++ addsAll (placeOf started kept) pieces ≡ listing (flatten pieces)
-unfolding listing started
+    → heading ++ addsAll (runSoFar startStream kept) pieces ≡ listing (flatten pieces)
+unfolding listing startStream
 listed kept pieces h =
     ap (λ (l : List ℕ). heading ++ l) (adds-all (place 0 0 kept) pieces ∙ adds-lines 0 kept [] (flatten pieces) (holds-none kept h))
 
 -- The output grows by what a call adds: what was in it up to where it is filled stays.
-pub grows : (s : Stream) (kept piece out : List ℕ) → s .filled + length (adds (placeOf s kept) piece) ≤ length out
-    → take (fed s kept piece .filled) (lay (s .filled) (adds (placeOf s kept) piece) out) ≡ take (s .filled) out ++ adds (placeOf s kept) piece
+pub grows : (s : Stream) (kept piece out : List ℕ) → s .filled + length (adds (runSoFar s kept) piece) ≤ length out
+    → take (fed s kept piece .filled) (lay (s .filled) (adds (runSoFar s kept) piece) out) ≡ take (s .filled) out ++ adds (runSoFar s kept) piece
 unfolding fed lay
 grows s kept piece out h =
-    let a = adds (placeOf s kept) piece in
+    let a = adds (runSoFar s kept) piece in
     rw (← append-assoc) (take-at (take (s .filled) out ++ a) _ (s .filled + length a) (simp (length-append, length-take) (omega arith)))

@@ -6,7 +6,7 @@ use mathlib.Core.Bool.{cond}
 use mathlib.Core.List.{List, [], _∷_, _++_}
 use lib.Dec.{ltb, eqb}
 use lib.ListN.{length, take, set}
-use Rattle.numbers.specs.declared.Refusal.the-variants as R
+use Rattle.status.specs.declared.Refusal.the-variants as R
 use Rattle.cobs.specs.Answers.{encodedMax}
 use Rattle.frame.specs.Reading.{openAnswer}
 use Rattle.frame.specs.declared.Opened.{Opened}
@@ -32,13 +32,13 @@ lineRun at n kept = cond (eqb n 0) [] (line at (openRun n kept) n)
 -- ---- a capture
 
 -- where a capture stands: the offset of the run, its length so far, and the memory with its first bytes
-pub record Place : Type 0 where
+pub record RunSoFar : Type 0 where
   pub at : ℕ
   pub len : ℕ
   pub kept : List ℕ
 
 -- after the byte b: a zero ends the run, and the next one begins past it
-unfoldable pub next : Place → ℕ → Place
+unfoldable pub next : RunSoFar → ℕ → RunSoFar
 next p b =
     record {
       at = cond (eqb b 0) (p .at + p .len + 1) (p .at);
@@ -47,34 +47,34 @@ next p b =
     }
 
 -- after a piece
-unfoldable pub after : Place → List ℕ → Place
-after p [] = p
-after p (b ∷ bs) = after (next p b) bs
+unfoldable pub afterBytes : RunSoFar → List ℕ → RunSoFar
+afterBytes p [] = p
+afterBytes p (b ∷ bs) = afterBytes (next p b) bs
 
 -- the lines that a piece adds
-unfoldable pub adds : Place → List ℕ → List ℕ
+unfoldable pub adds : RunSoFar → List ℕ → List ℕ
 adds p [] = []
 adds p (b ∷ bs) = cond (eqb b 0) (lineRun (p .at) (p .len) (p .kept)) [] ++ adds (next p b) bs
 
 -- the lines that pieces add, one after another
-unfoldable pub addsAll : Place → List (List ℕ) → List ℕ
+unfoldable pub addsAll : RunSoFar → List (List ℕ) → List ℕ
 addsAll p [] = []
-addsAll p (piece ∷ pieces) = adds p piece ++ addsAll (after p piece) pieces
+addsAll p (piece ∷ pieces) = adds p piece ++ addsAll (afterBytes p piece) pieces
 
 -- ---- what the code holds of it
 
-abbrev pub placeOf : Stream → List ℕ → Place
-placeOf s kept = record { at = s .at; len = s .len; kept = kept }
+abbrev pub runSoFar : Stream → List ℕ → RunSoFar
+runSoFar s kept = record { at = s .at; len = s .len; kept = kept }
 
 -- before the first piece, with the heading in the output
-unfoldable pub started : Stream
-started = record { at = 0; len = 0; filled = length heading }
+unfoldable pub startStream : Stream
+startStream = record { at = 0; len = 0; filled = length heading }
 
 -- after a piece
 unfoldable pub fed : Stream → List ℕ → List ℕ → Stream
 fed s kept piece =
     record {
-      at = after (placeOf s kept) piece .at;
-      len = after (placeOf s kept) piece .len;
-      filled = s .filled + length (adds (placeOf s kept) piece);
+      at = afterBytes (runSoFar s kept) piece .at;
+      len = afterBytes (runSoFar s kept) piece .len;
+      filled = s .filled + length (adds (runSoFar s kept) piece);
     }

@@ -6,10 +6,10 @@ ghost use Rattle.buffer.specs.Lay.{lay};
 ghost use Rattle.cobs.specs.Answers.{encodedMax};
 ghost use Rattle.line.specs.Lines.{lineMax};
 ghost use Rattle.capture.specs.Listing.{heading};
-ghost use Rattle.capture.specs.Stream.{keep, openRun, lineRun, placeOf, after, adds, started, fed};
+ghost use Rattle.capture.specs.Stream.{keep, openRun, lineRun, runSoFar, afterBytes, adds, startStream, fed};
 use cobs::ENCODED_MAX;
 use frame::Opened;
-use numbers::Refusal;
+use status::Refusal;
 
 // Where a capture stands between two pieces. Of a run so many bytes are kept as a frame can have, and
 // a longer one is none.
@@ -31,7 +31,7 @@ fn open_run(n: u64, run: &[u8]) -> Opened
         return Opened::Refused(Refusal::Length);
     }
     let mut memory = [0u8; ENCODED_MAX];
-    open::unpack(&run[..n as usize], ENCODED_MAX, &mut memory)
+    frame::unpack(&run[..n as usize], ENCODED_MAX, &mut memory)
 }
 
 // Writes the line of a run at an offset: n is its length, and run has its first bytes. An empty run
@@ -58,11 +58,11 @@ fn keep(n: u64, b: u8, run: &mut [u8])
     }
 }
 
-// Starts a listing: the heading is in the output. A helper of the crates above, as the next: they
-// show that there is room, and that no counter passes its end.
+// Starts a listing: the heading is in the output. Internal, as the next: callers prove
+// that there is room, and that no counter overflows.
 pub fn start(dst: &mut [u8]) -> Stream
     requires { ⌜ length heading ≤ length (now dst) ⌝ }
-    ensures { λ r. ⌜ r ≡ started ⌝ }
+    ensures { λ r. ⌜ r ≡ startStream ⌝ }
     ensures { λ r. ⌜ now (dst .exit) ≡ lay 0 heading (now (dst .entry)) ⌝ }
 {
     let filled = text::put(b"at type tag len\n", dst, 0);
@@ -80,8 +80,8 @@ pub fn feed(s: Stream, piece: &[u8], run: &mut [u8], dst: &mut [u8]) -> Stream
     requires { ⌜ encodedMax ≤ length (now run) ⌝ }
     requires { ⌜ s .filled + lineMax * length (now piece) ≤ length (now dst) ⌝ }
     ensures { λ r. ⌜ r ≡ fed s (now (run .entry)) (now (piece .entry)) ⌝ }
-    ensures { λ r. ⌜ now (run .exit) ≡ after (placeOf s (now (run .entry))) (now (piece .entry)) .kept ⌝ }
-    ensures { λ r. ⌜ now (dst .exit) ≡ lay (s .filled) (adds (placeOf s (now (run .entry))) (now (piece .entry))) (now (dst .entry)) ⌝ }
+    ensures { λ r. ⌜ now (run .exit) ≡ afterBytes (runSoFar s (now (run .entry))) (now (piece .entry)) .kept ⌝ }
+    ensures { λ r. ⌜ now (dst .exit) ≡ lay (s .filled) (adds (runSoFar s (now (run .entry))) (now (piece .entry))) (now (dst .entry)) ⌝ }
 {
     let mut at = s.at;
     let mut len = s.len;

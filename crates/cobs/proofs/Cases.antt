@@ -8,7 +8,7 @@ use native.Mathlib.Omega.{arith}
 use borrow.Author.Tests.{eq-eqb, ne-eqb}
 use Rattle.buffer.proofs.Deciding.{same}
 use Rattle.cobs.specs.Groups.{full, into, first}
-use Rattle.cobs.specs.Encoding.{cut}
+use Rattle.cobs.specs.Encoding.{grouped}
 use Rattle.cobs.specs.Decoding.{whole, parts}
 
 -- a byte x of the source, in a group that has n: a zero, the 254th, or another
@@ -19,24 +19,24 @@ pub three : {P : Type 0} (n x : ℕ)
     → P
 three n x z f m = ⊎-elim z (λ s. ⊎-elim (f s) (m s) (same (n + 1) full)) (same x 0)
 
-pub cut-none : (n : ℕ) → cut n [] ≡ [] ∷ []
-unfolding cut
+pub cut-none : (n : ℕ) → grouped n [] ≡ [] ∷ []
+unfolding grouped
 cut-none n = refl
 
 module _ (n x : ℕ) (xs : List ℕ) where
   pred-suc : suc n - 1 ≡ n
   pred-suc = omega arith
 
-  pub cut-zero : x ≡ 0 → cut n (x ∷ xs) ≡ [] ∷ cut 0 xs
-  unfolding cut
+  pub cut-zero : x ≡ 0 → grouped n (x ∷ xs) ≡ [] ∷ grouped 0 xs
+  unfolding grouped
   cut-zero z = simp (eq-eqb x 0 z)
 
-  pub cut-full : (x ≡ 0 → ⊥) → n + 1 ≡ full → cut n (x ∷ xs) ≡ (x ∷ []) ∷ cut 0 xs
-  unfolding cut
+  pub cut-full : (x ≡ 0 → ⊥) → n + 1 ≡ full → grouped n (x ∷ xs) ≡ (x ∷ []) ∷ grouped 0 xs
+  unfolding grouped
   cut-full s f = simp (ne-eqb x 0 s, eq-eqb (n + 1) full f)
 
-  pub cut-more : (x ≡ 0 → ⊥) → (n + 1 ≡ full → ⊥) → cut n (x ∷ xs) ≡ into x (cut (n + 1) xs)
-  unfolding cut
+  pub cut-more : (x ≡ 0 → ⊥) → (n + 1 ≡ full → ⊥) → grouped n (x ∷ xs) ≡ into x (grouped (n + 1) xs)
+  unfolding grouped
   cut-more s f = simp (ne-eqb x 0 s, ne-eqb (n + 1) full f)
 
   -- a byte of an encoding, where n bytes and one of its group are to come

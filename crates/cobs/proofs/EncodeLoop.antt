@@ -11,7 +11,7 @@ use Rattle.buffer.specs.Lay.{lay}
 use Rattle.buffer.proofs.Laws.{length-lay, set-lay}
 use Rattle.buffer.proofs.Laying.{Laying, start, fits, piece}
 use Rattle.cobs.specs.Groups.{full}
-use Rattle.cobs.specs.Encoding.{cut, group, wire, encoded, worst}
+use Rattle.cobs.specs.Encoding.{grouped, group, groupsBytes, encoded, worst}
 use Rattle.cobs.proofs.Cases.{others}
 use Rattle.cobs.proofs.Cutting.{Cut, cut-is, encoded-split}
 use Rattle.cobs.proofs.Laws.{length-bound}
@@ -42,11 +42,11 @@ module _ {src dst₀ dst : List ℕ} {r w : ℕ} (i : Encoding src dst₀ dst r 
   long : length xs + r ≡ length src
   long = ap (λ (l : List ℕ). length l + r) from-is ∙ simp length-drop (omega (arith, i .inside))
 
-  shape : Cut 0 xs (cut 0 xs)
+  shape : Cut 0 xs (grouped 0 xs)
   shape = cut-is 0 xs (omega arith)
 
   -- the group with its code, and the others, are still to be laid
-  ahead : Laying 0 (encoded src) dst₀ w (((length g + 1) ∷ g) ++ wire (others (cut 0 xs))) dst
+  ahead : Laying 0 (encoded src) dst₀ w (((length g + 1) ∷ g) ++ groupsBytes (others (grouped 0 xs))) dst
   ahead = rw (sym from-is, encoded-split xs) at (i .laying)
 
   -- the group has its bytes in the source, and room with its code in the destination
@@ -61,7 +61,7 @@ module _ {src dst₀ dst : List ℕ} {r w : ℕ} (i : Encoding src dst₀ dst r 
     pub code-fits : w < length d
     code-fits = omega (arith, ap length l, length-lay (w + 1) g dst (bounds .2), bounds .2)
 
-    laid : Laying 0 (encoded src) dst₀ (w + (k + 1)) (wire (others (cut 0 xs))) (set d w (k + 1))
+    laid : Laying 0 (encoded src) dst₀ (w + (k + 1)) (groupsBytes (others (grouped 0 xs))) (set d w (k + 1))
     laid =
         let e : w + suc (length g) ≡ w + (length g + 1) = omega arith in
         rw (n, l, set-lay w (length g + 1) g dst (bounds .2)) (rw e at (piece ((length g + 1) ∷ g) ahead))
@@ -75,8 +75,8 @@ module _ {src dst₀ dst : List ℕ} {r w : ℕ} (i : Encoding src dst₀ dst r 
     unfolding group encoded
     turn-full h =
         let b = bounds in
-        let e : wire (others (cut 0 xs)) ≡ encoded (drop (r + k) src) =
-        ap wire (shape .at-full (omega arith)) ∙ ap encoded (ap (λ (m : ℕ). drop m xs) (sym n) ∙ on k) in
+        let e : groupsBytes (others (grouped 0 xs)) ≡ encoded (drop (r + k) src) =
+        ap groupsBytes (shape .at-full (omega arith)) ∙ ap encoded (ap (λ (m : ℕ). drop m xs) (sym n) ∙ on k) in
         record { inside = omega arith; laying = rw e at laid }
 
     -- a group before a zero
@@ -84,14 +84,14 @@ module _ {src dst₀ dst : List ℕ} {r w : ℕ} (i : Encoding src dst₀ dst r 
     unfolding group encoded
     turn-zero h m =
         let f : r + suc k ≡ r + k + 1 = omega arith in
-        let e : wire (others (cut 0 xs)) ≡ encoded (drop (r + k + 1) src) =
-        ap wire (shape .at-zero (omega arith) (omega (arith, long)))
+        let e : groupsBytes (others (grouped 0 xs)) ≡ encoded (drop (r + k + 1) src) =
+        ap groupsBytes (shape .at-zero (omega arith) (omega (arith, long)))
         ∙ ap encoded (ap (λ (m : ℕ). drop (suc m) xs) (sym n) ∙ on (suc k) ∙ ap (λ (m : ℕ). drop m src) f) in
         record { inside = omega arith; laying = rw e at laid }
 
     -- the last group
     pub end : k < full → length src ≤ r + k → Laying 0 (encoded src) dst₀ (w + (k + 1)) [] (set d w (k + 1))
-    unfolding group wire
+    unfolding group groupsBytes
     end h m =
-        let e : wire (others (cut 0 xs)) ≡ [] = ap wire (shape .at-end (omega arith) (omega (arith, long))) in
+        let e : groupsBytes (others (grouped 0 xs)) ≡ [] = ap groupsBytes (shape .at-end (omega arith) (omega (arith, long))) in
         rw e at laid

@@ -4,27 +4,27 @@ use mathlib.Core.Path.{_≡_, refl}
 use mathlib.Core.Bool.{true, false}
 use mathlib.Core.List.{[], _∷_, _++_}
 use lib.ListN.{length, replicate}
-use Rattle.cobs.specs.Encoding.{cut, wire, encoded, worst}
+use Rattle.cobs.specs.Encoding.{grouped, groupsBytes, encoded, worst}
 use Rattle.cobs.specs.Decoding.{hasZero, whole, broken, parts, groups, joined, decoded}
 use Rattle.cobs.specs.Answers.{bodyMax, encodedMax}
 
 -- P C.2.1: the body of PING 0001
 pub ping : encoded (0x01 ∷ 0x01 ∷ 0x00 ∷ 0x9D ∷ 0xC8 ∷ []) ≡ 0x03 ∷ 0x01 ∷ 0x01 ∷ 0x03 ∷ 0x9D ∷ 0xC8 ∷ []
-unfolding encoded cut wire
+unfolding encoded grouped groupsBytes
 ping = refl
 
 -- no bytes become 01
 pub empty : encoded [] ≡ 1 ∷ []
-unfolding encoded cut wire
+unfolding encoded grouped groupsBytes
 empty = refl
 
 -- a full group at the end has its closing 01; without a zero 280 bytes become 282
 pub closed : encoded (replicate 254 7) ≡ 255 ∷ (replicate 254 7 ++ (1 ∷ []))
-unfolding encoded cut wire
+unfolding encoded grouped groupsBytes
 closed = refl
 
 pub longest : length (encoded (replicate 280 7)) ≡ 282
-unfolding encoded cut wire
+unfolding encoded grouped groupsBytes
 longest = refl
 
 -- so the longest encoding is the longest body's worst case

@@ -6,8 +6,8 @@ use mathlib.Core.Bool.{cond}
 use mathlib.Core.List.{List}
 use lib.Dec.{ltb}
 use lib.ListN.{length}
-use Rattle.numbers.specs.Numbers.{SHORT, STUFF, LENGTH}
-use Rattle.numbers.specs.Came.{Came, took, refusedWith}
+use Rattle.status.specs.Numbers.{SHORT, STUFF, LENGTH}
+use Rattle.status.specs.Result.{Result, took, refusedWith}
 use Rattle.buffer.specs.Lay.{lay}
 use Rattle.cobs.specs.Encoding.{encoded, worst}
 use Rattle.cobs.specs.Decoding.{broken, decoded}
@@ -58,13 +58,13 @@ unfoldable pub decodeLeft : List ℕ → List ℕ → List ℕ
 decodeLeft s d = decodeBy (decodeAnswer s (length d)) s d
 
 -- what comes back: 01's number, and how many bytes were written
-abbrev pub encodedSays : Encoded → Came ℕ
-encodedSays (E.Done n) = took n
-encodedSays E.Short = refusedWith SHORT
-encodedSays E.Length = refusedWith LENGTH
+abbrev pub encodedResult : Encoded → Result ℕ
+encodedResult (E.Done n) = took n
+encodedResult E.Short = refusedWith SHORT
+encodedResult E.Length = refusedWith LENGTH
 
-abbrev pub decodedSays : Decoded → Came ℕ
-decodedSays (D.Done n) = took n
-decodedSays D.Short = refusedWith SHORT
-decodedSays D.Stuff = refusedWith STUFF
-decodedSays D.Length = refusedWith LENGTH
+abbrev pub decodedResult : Decoded → Result ℕ
+decodedResult (D.Done n) = took n
+decodedResult D.Short = refusedWith SHORT
+decodedResult D.Stuff = refusedWith STUFF
+decodedResult D.Length = refusedWith LENGTH

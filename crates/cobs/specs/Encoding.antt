@@ -17,24 +17,24 @@ last x = cond (eqb x 0) [] (x ∷ [])
 
 -- The source cut into groups, where the first has n bytes already.
 -- After a full group another one follows, an empty one at the end of the source: that is the closing 01.
-unfoldable pub cut : ℕ → List ℕ → List (List ℕ)
-cut n [] = [] ∷ []
-cut n (x ∷ xs) =
-    let gs = cut (cond (ends n x) 0 (n + 1)) xs in
+unfoldable pub grouped : ℕ → List ℕ → List (List ℕ)
+grouped n [] = [] ∷ []
+grouped n (x ∷ xs) =
+    let gs = grouped (cond (ends n x) 0 (n + 1)) xs in
     cond (ends n x) (last x ∷ gs) (into x gs)
 
 -- the first group of the source xs
 unfoldable pub group : List ℕ → List ℕ
-group xs = first (cut 0 xs)
+group xs = first (grouped 0 xs)
 
 -- groups on the wire: each as its code and its bytes
-unfoldable pub wire : List (List ℕ) → List ℕ
-wire [] = []
-wire (g ∷ gs) = (length g + 1) ∷ (g ++ wire gs)
+unfoldable pub groupsBytes : List (List ℕ) → List ℕ
+groupsBytes [] = []
+groupsBytes (g ∷ gs) = (length g + 1) ∷ (g ++ groupsBytes gs)
 
 -- the encoding of the bytes xs
 unfoldable pub encoded : List ℕ → List ℕ
-encoded xs = wire (cut 0 xs)
+encoded xs = groupsBytes (grouped 0 xs)
 
 -- the most that n bytes become
 abbrev pub worst : ℕ → ℕ

@@ -7,7 +7,7 @@ ghost use lib.ListN.{length};
 ghost use Rattle.buffer.specs.Lay.{lay};
 ghost use Rattle.cobs.specs.Encoding.{group, encoded, worst};
 ghost use Rattle.cobs.specs.Decoding.{hasZero, whole, broken, decoded};
-ghost use Rattle.cobs.specs.Answers.{encodeAnswer, encodeLeft, encodedSays, decodeAnswer, decodeLeft, decodedSays};
+ghost use Rattle.cobs.specs.Answers.{encodeAnswer, encodeLeft, encodedResult, decodeAnswer, decodeLeft, decodedResult};
 
 // The longest body: 01 "Bytes on the wire".
 pub const BODY_MAX: usize = 280;
@@ -40,7 +40,7 @@ pub enum Decoded {
 
 // Encodes src ("stuffing" in 01) into dst.
 pub fn encode(src: &[u8], dst: &mut [u8]) -> Encoded
-    ensures { λ r. ⌜ encodedSays r ≡ encodedSays (encodeAnswer (now (src .entry)) (length (now (dst .entry)))) ⌝ }
+    ensures { λ r. ⌜ encodedResult r ≡ encodedResult (encodeAnswer (now (src .entry)) (length (now (dst .entry)))) ⌝ }
     ensures { λ r. ⌜ now (dst .exit) ≡ encodeLeft (now (src .entry)) (now (dst .entry)) ⌝ }
 {
     let n = src.len();
@@ -61,8 +61,8 @@ pub fn worst(n: u16) -> usize
     n + n / FULL + 1
 }
 
-// Writes the encoding of src, group by group: r bytes are read and w written. A helper of the
-// crates above: they show that it has room.
+// Writes the encoding of src, group by group: r bytes are read and w written. Internal: callers
+// prove that there is room.
 pub fn encode_into(src: &[u8], dst: &mut [u8]) -> usize
     requires { ⌜ worst (length (now src)) ≤ length (now dst) ⌝ }
     ensures { λ r. ⌜ r ≡ length (encoded (now (src .entry))) ⌝ }
@@ -109,7 +109,7 @@ fn copy_group(src: &[u8], dst: &mut [u8], at: usize) -> usize
 
 // Decodes src ("unstuffing" in 01) into dst.
 pub fn decode(src: &[u8], dst: &mut [u8]) -> Decoded
-    ensures { λ r. ⌜ decodedSays r ≡ decodedSays (decodeAnswer (now (src .entry)) (length (now (dst .entry)))) ⌝ }
+    ensures { λ r. ⌜ decodedResult r ≡ decodedResult (decodeAnswer (now (src .entry)) (length (now (dst .entry)))) ⌝ }
     ensures { λ r. ⌜ now (dst .exit) ≡ decodeLeft (now (src .entry)) (now (dst .entry)) ⌝ }
 {
     if ENCODED_MAX < src.len() {

@@ -12,7 +12,7 @@ use denote.Enum.Declared.{tagOf}
 use types.Run.{OneOf, miss}
 use lib.Dec.{ltb, eqb}
 use lib.ListN.{length}
-use Rattle.numbers.proofs.Laws.{same-by, refusal-back, answerBy}
+use Rattle.status.proofs.Laws.{same-by, refusal-back, answerBy}
 use Rattle.buffer.specs.Lay.{lay}
 use Rattle.scalar.specs.Scalars.{le}
 use Rattle.scalar.proofs.Laws.{number-le}
@@ -22,7 +22,7 @@ use Rattle.form.specs.declared.Form.the-variants as F
 use Rattle.kind.specs.Kinds.{SET-CONFIG, TX, isCommand}
 use Rattle.modulation.specs.Modulations.{configForm, configBytes}
 use Rattle.modulation.proofs.Laws.{config-back, config-small, fixed-most, length-config, word-back}
-use Rattle.command.specs.Commands.{askedSays, txForm, txBytes, commandForm, commandOf, readCommand, commandKind, commandBytes, commandTail}
+use Rattle.command.specs.Commands.{askedResult, txForm, txBytes, commandForm, commandOf, readCommand, commandKind, commandBytes, commandTail}
 use Rattle.command.specs.Ranges.{CommandIn}
 use Rattle.command.specs.declared.Command.{Command}
 use Rattle.command.specs.declared.Command.the-variants as C
@@ -51,15 +51,15 @@ unfolding txBytes lay le
 tx-bytes f packet h = rw (mod-eq-of-lt h)
 
 -- a command but SET_CONFIG and TX has the bytes alone
-abbrev bare : List ℕ
-bare = 0 ∷ 1 ∷ 4 ∷ 5 ∷ []
+abbrev without-bytes : List ℕ
+without-bytes = 0 ∷ 1 ∷ 4 ∷ 5 ∷ []
 
-pub bytes-alone : (c : Command) (bs : List ℕ) → OneOf bare (tagOf the-type c) → commandBytes c bs ≡ bs
+pub bytes-alone : (c : Command) (bs : List ℕ) → OneOf without-bytes (tagOf the-type c) → commandBytes c bs ≡ bs
 unfolding commandBytes
 bytes-alone C.Ping bs k = refl
 bytes-alone C.GetInfo bs k = refl
-bytes-alone (C.SetConfig m) bs k = absurd (miss bare 2 tt k)
-bytes-alone (C.Tx f) bs k = absurd (miss bare 3 tt k)
+bytes-alone (C.SetConfig m) bs k = absurd (miss without-bytes 2 tt k)
+bytes-alone (C.Tx f) bs k = absurd (miss without-bytes 3 tt k)
 bytes-alone C.RxStart bs k = refl
 bytes-alone C.RxStop bs k = refl
 
@@ -104,13 +104,13 @@ command-long c bs h = refuted _ (λ e. omega (arith, command-most c bs e))
 
 -- ---- what reading answers
 
-asked-back : (a : Asked) → answerBy A.Command A.Refused (askedSays a) ≡ a
+asked-back : (a : Asked) → answerBy A.Command A.Refused (askedResult a) ≡ a
 asked-back (A.Command c) = refl
 asked-back (A.Refused r) = ap A.Refused (refusal-back r)
 
 -- it is told by its number and its command
-pub asked-same : (a b : Asked) → askedSays a ≡ askedSays b → a ≡ b
-asked-same = same-by askedSays (answerBy A.Command A.Refused) asked-back
+pub asked-same : (a b : Asked) → askedResult a ≡ askedResult b → a ≡ b
+asked-same = same-by askedResult (answerBy A.Command A.Refused) asked-back
 
 -- ---- read back
 

@@ -6,9 +6,9 @@ use mathlib.Core.Bool.{cond}
 use mathlib.Core.List.{List, _++_}
 use lib.Dec.{ltb, eqb}
 use lib.ListN.{length, replicate, drop}
-use Rattle.numbers.specs.Refusals.{refusalNumber}
-use Rattle.numbers.specs.Came.{Came, took, refusedWith}
-use Rattle.numbers.specs.declared.Refusal.the-variants as R
+use Rattle.status.specs.Refusals.{refusalNumber}
+use Rattle.status.specs.Result.{Result, took, refusedWith}
+use Rattle.status.specs.declared.Refusal.the-variants as R
 use Rattle.scalar.specs.Scalars.{Column, column, get, put}
 use Rattle.form.specs.Forms.{exactly}
 use Rattle.modulation.specs.Modulations.{configForm, configOf, configBytes, syncWord}
@@ -69,9 +69,9 @@ readCommand kind p =
     (A.Refused R.Type)
 
 -- what comes back: 01's number, and the command
-abbrev pub askedSays : Asked → Came Command
-askedSays (A.Command c) = took c
-askedSays (A.Refused r) = refusedWith (refusalNumber r)
+abbrev pub askedResult : Asked → Result Command
+askedResult (A.Command c) = took c
+askedResult (A.Refused r) = refusedWith (refusalNumber r)
 
 -- the type of a command
 abbrev pub commandKind : Command → ℕ

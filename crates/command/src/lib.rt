@@ -5,7 +5,7 @@ ghost use Prim.Native.Nat.{_≤_};
 ghost use lib.ListN.{length};
 ghost use Rattle.buffer.specs.Lay.{lay};
 ghost use Rattle.form.specs.Forms.{exactly};
-ghost use Rattle.command.specs.Commands.{askedSays, commandForm, commandOf, commandBytes, commandKind, packetOf, readCommand, txBytes, txForm};
+ghost use Rattle.command.specs.Commands.{askedResult, commandForm, commandOf, commandBytes, commandKind, packetOf, readCommand, txBytes, txForm};
 use form::Form;
 use kind::GET_INFO;
 use kind::PACKET_MAX;
@@ -15,7 +15,7 @@ use kind::RX_STOP;
 use kind::SET_CONFIG;
 use kind::TX;
 use modulation::Modulation;
-use numbers::Refusal;
+use status::Refusal;
 
 // The bytes of a TX's flags, before its packet: P 6.4.
 pub const FLAGS_SIZE: usize = 1;
@@ -41,7 +41,7 @@ pub enum Asked {
 
 // Reads a payload of some type as a command.
 pub fn read_command(kind: u8, payload: &[u8]) -> Asked
-    ensures { λ r. ⌜ askedSays r ≡ askedSays (readCommand kind (now (payload .entry))) ⌝ }
+    ensures { λ r. ⌜ askedResult r ≡ askedResult (readCommand kind (now (payload .entry))) ⌝ }
 {
     if kind::is_command(kind) {
         if form::exactly(command_form(kind, payload), payload.len()) {
@@ -125,8 +125,8 @@ pub fn command_kind(c: Command) -> u8
     }
 }
 
-// Writes the payload of a command with its bytes, and answers how long it is. A helper of the
-// crates above: they show that it has room.
+// Writes the payload of a command with its bytes, and returns its length. Internal: callers prove
+// that there is room.
 pub fn put_command(c: Command, bytes: &[u8], dst: &mut [u8]) -> usize
     requires { ⌜ length (commandBytes c (now bytes)) ≤ length (now dst) ⌝ }
     ensures { λ r. ⌜ r ≡ length (commandBytes c (now (bytes .entry))) ⌝ }

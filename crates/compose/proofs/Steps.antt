@@ -5,16 +5,16 @@ use mathlib.Core.Bool.{Bool, true, false, cond}
 use mathlib.Core.List.{List}
 use Prim.Native.Nat.{ℕ}
 use lib.ListN.{length}
-use Rattle.numbers.specs.declared.Refusal.the-variants as R
+use Rattle.status.specs.declared.Refusal.the-variants as R
 use Rattle.frame.specs.declared.Written.the-variants as W
 use Rattle.kind.specs.Kinds.{tagWrong}
-use Rattle.verdict.specs.Judging.{has, fitsWritten, judge}
-use Rattle.verdict.specs.declared.Kinds.{Kinds}
+use Rattle.wellformed.specs.Checking.{has, fitsWritten, check}
+use Rattle.wellformed.specs.declared.Kinds.{Kinds}
 use Rattle.writer.specs.Writing.{bodyAnswer, bodyLeft, writeAnswer, writeLeft}
 
 module _ (kinds : Kinds) (k t : ℕ) (p d : List ℕ) (h : has kinds k ≡ true) (f : fitsWritten kinds k p ≡ false) where
   pub wrong-body : (W.Refused (cond (tagWrong k t) R.Tag R.Form) ≡ bodyAnswer kinds k t p (length d)) × (d ≡ bodyLeft kinds k t p d)
-  unfolding bodyAnswer bodyLeft judge
+  unfolding bodyAnswer bodyLeft check
   wrong-body = go (tagWrong k t) refl
     where
       go : (b : Bool) → tagWrong k t ≡ b
@@ -23,7 +23,7 @@ module _ (kinds : Kinds) (k t : ℕ) (p d : List ℕ) (h : has kinds k ≡ true)
       go false e = (rw (e, h, f), rw (e, h, f))
 
   pub wrong-frame : (W.Refused (cond (tagWrong k t) R.Tag R.Form) ≡ writeAnswer kinds k t p (length d)) × (d ≡ writeLeft kinds k t p d)
-  unfolding writeAnswer writeLeft judge
+  unfolding writeAnswer writeLeft check
   wrong-frame = go (tagWrong k t) refl
     where
       go : (b : Bool) → tagWrong k t ≡ b

@@ -3,7 +3,7 @@
 ghost use mathlib.Core.Path.{_≡_};
 ghost use mathlib.Core.Bool.{cond};
 ghost use lib.ListN.{length};
-ghost use Rattle.frame.specs.Writing.{writtenSays};
+ghost use Rattle.frame.specs.Writing.{writtenResult};
 ghost use Rattle.kind.specs.Kinds.{tagWrong};
 ghost use Rattle.command.specs.Commands.{commandBytes, commandKind};
 ghost use Rattle.answer.specs.Answers.{answerBytes, answerKind, answerName};
@@ -13,8 +13,8 @@ use command::Command;
 use frame::Written;
 use info::INFO_SIZE;
 use kind::PACKET_MAX;
-use numbers::Refusal;
-use verdict::Kinds;
+use status::Refusal;
+use wellformed::Kinds;
 
 // The longest payload that a packet's bytes may be put into, the longest of variable length: an OK to
 // GET_INFO, with its fields and one more before them.
@@ -22,8 +22,8 @@ const MEMORY: usize = INFO_SIZE + 1 + PACKET_MAX;
 
 // Builds the body of a command, with its bytes of variable length.
 pub fn build_command(c: Command, tag: u16, bytes: &[u8], dst: &mut [u8]) -> Written
-    ensures { λ r. ⌜ writtenSays r
-        ≡ writtenSays (bodyAnswer Kinds.Commands (commandKind c) tag (commandBytes c (now (bytes .entry))) (length (now (dst .entry)))) ⌝ }
+    ensures { λ r. ⌜ writtenResult r
+        ≡ writtenResult (bodyAnswer Kinds.Commands (commandKind c) tag (commandBytes c (now (bytes .entry))) (length (now (dst .entry)))) ⌝ }
     ensures { λ r. ⌜ now (dst .exit) ≡ bodyLeft Kinds.Commands (commandKind c) tag (commandBytes c (now (bytes .entry))) (now (dst .entry)) ⌝ }
 {
     let kind = command::command_kind(c);
@@ -37,8 +37,8 @@ pub fn build_command(c: Command, tag: u16, bytes: &[u8], dst: &mut [u8]) -> Writ
 
 // Writes the frame of a command, with its bytes of variable length.
 pub fn write_command(c: Command, tag: u16, bytes: &[u8], dst: &mut [u8]) -> Written
-    ensures { λ r. ⌜ writtenSays r
-        ≡ writtenSays (writeAnswer Kinds.Commands (commandKind c) tag (commandBytes c (now (bytes .entry))) (length (now (dst .entry)))) ⌝ }
+    ensures { λ r. ⌜ writtenResult r
+        ≡ writtenResult (writeAnswer Kinds.Commands (commandKind c) tag (commandBytes c (now (bytes .entry))) (length (now (dst .entry)))) ⌝ }
     ensures { λ r. ⌜ now (dst .exit) ≡ writeLeft Kinds.Commands (commandKind c) tag (commandBytes c (now (bytes .entry))) (now (dst .entry)) ⌝ }
 {
     let kind = command::command_kind(c);
@@ -52,8 +52,8 @@ pub fn write_command(c: Command, tag: u16, bytes: &[u8], dst: &mut [u8]) -> Writ
 
 // Builds the body of an answer, with its bytes of variable length.
 pub fn build_answer(a: Answer, tag: u16, bytes: &[u8], dst: &mut [u8]) -> Written
-    ensures { λ r. ⌜ writtenSays r
-        ≡ writtenSays (bodyAnswer (Kinds.Answers (answerName a)) (answerKind a) tag (answerBytes a (now (bytes .entry))) (length (now (dst .entry)))) ⌝ }
+    ensures { λ r. ⌜ writtenResult r
+        ≡ writtenResult (bodyAnswer (Kinds.Answers (answerName a)) (answerKind a) tag (answerBytes a (now (bytes .entry))) (length (now (dst .entry)))) ⌝ }
     ensures { λ r. ⌜ now (dst .exit) ≡ bodyLeft (Kinds.Answers (answerName a)) (answerKind a) tag (answerBytes a (now (bytes .entry))) (now (dst .entry)) ⌝ }
 {
     let kind = answer::answer_kind(a);
@@ -68,8 +68,8 @@ pub fn build_answer(a: Answer, tag: u16, bytes: &[u8], dst: &mut [u8]) -> Writte
 
 // Writes the frame of an answer, with its bytes of variable length.
 pub fn write_answer(a: Answer, tag: u16, bytes: &[u8], dst: &mut [u8]) -> Written
-    ensures { λ r. ⌜ writtenSays r
-        ≡ writtenSays (writeAnswer (Kinds.Answers (answerName a)) (answerKind a) tag (answerBytes a (now (bytes .entry))) (length (now (dst .entry)))) ⌝ }
+    ensures { λ r. ⌜ writtenResult r
+        ≡ writtenResult (writeAnswer (Kinds.Answers (answerName a)) (answerKind a) tag (answerBytes a (now (bytes .entry))) (length (now (dst .entry)))) ⌝ }
     ensures { λ r. ⌜ now (dst .exit) ≡ writeLeft (Kinds.Answers (answerName a)) (answerKind a) tag (answerBytes a (now (bytes .entry))) (now (dst .entry)) ⌝ }
 {
     let kind = answer::answer_kind(a);

@@ -7,14 +7,14 @@ use mathlib.Core.Bool.{Bool, true, false, cond, _||_}
 use mathlib.Core.List.{List, [], _∷_, _++_}
 use lib.Dec.{ltb}
 use lib.ListN.{length}
-use Rattle.numbers.specs.Numbers.{TAKEN, ROOM}
+use Rattle.status.specs.Numbers.{TAKEN, ROOM}
 use Rattle.buffer.specs.Lay.{lay}
 use Rattle.device.specs.State.{RadioOf}
 use Rattle.device.specs.State as S
 use Rattle.device.specs.Messages.{Frame, yes}
 use Rattle.device.specs.Events.{roomMin}
 use Rattle.device.specs.Events as E
-use Rattle.wire.specs.Wire.{sends}
+use Rattle.emit.specs.Emitting.{framesBytes}
 use Rattle.control.specs.declared.Mode.{Mode}
 use Rattle.control.specs.declared.Mode.the-variants.{Unconfigured, Lora, Fsk}
 use Rattle.control.specs.declared.Radio.{Radio}
@@ -26,7 +26,7 @@ use Rattle.control.specs.declared.Device.{Device}
 use Rattle.control.specs.declared.Order.{Order}
 use Rattle.control.specs.declared.Order.the-variants.{Nothing, Standby, Configure, Transmit, Receive}
 use Rattle.control.specs.declared.Taken.{Taken}
-use Rattle.control.specs.declared.Answer.{Answer}
+use Rattle.control.specs.declared.Reply.{Reply}
 
 -- ---- the state
 
@@ -56,15 +56,15 @@ abbrev pub withRadio : Air → Radio → Air
 withRadio a r = air r (a .pending) (a .first) (a .waiting)
 
 -- no session and no run
-abbrev pub silent : Link
-silent = link false 0 0
+abbrev pub noSession : Link
+noSession = link false 0 0
 
 -- nothing received; where the ring begins stays
-abbrev pub deaf : Inbox → Inbox
-deaf i = inbox false (i .first) 0 0
+abbrev pub receptionCleared : Inbox → Inbox
+receptionCleared i = inbox false (i .first) 0 0
 
 abbrev pub powerUp : Device
-powerUp = device Unconfigured silent (air Free false 0 0) (inbox false 0 0 0)
+powerUp = device Unconfigured noSession (air Free false 0 0) (inbox false 0 0 0)
 
 -- ---- what is asked of it
 
@@ -73,7 +73,8 @@ unconfigured Unconfigured = true
 unconfigured Lora = false
 unconfigured Fsk = false
 
--- The radio as the definition has it, and back: of a SET_CONFIG that it is being configured with nothing is kept here, since it stands in the memory of commands.
+-- The radio as the definition has it, and back: of a SET_CONFIG that it is being configured with nothing is kept here, since it
+-- stands in the memory of commands.
 abbrev pub radioOf : Radio → RadioOf (Unit {0})
 radioOf Free = S.free
 radioOf (Listening t) = S.listening t
@@ -103,29 +104,29 @@ stalled a = a .pending || runs? (a .radio)
 -- what is done by one that is taken: the next state, the frames written and the radio order
 pub record Done : Type 0 where
   pub next : Device
-  pub said : List Frame
+  pub writes : List Frame
   pub order : Order
 
 abbrev pub does : Device → List Frame → Order → Done
-does d fs o = record { next = d; said = fs; order = o }
+does d fs o = record { next = d; writes = fs; order = o }
 
 -- frames first, and then what x gives
-abbrev pub says : List Frame → Done → Done
-says fs x = does (x .next) (fs ++ x .said) (x .order)
+abbrev pub writesFirst : List Frame → Done → Done
+writesFirst fs x = does (x .next) (fs ++ x .writes) (x .order)
 
 -- what any is answered with: the number too
 pub record Out : Type 0 where
   pub next : Device
   pub number : ℕ
-  pub said : List Frame
+  pub writes : List Frame
   pub order : Order
 
 abbrev pub taken : Done → Out
-taken x = record { next = x .next; number = TAKEN; said = x .said; order = x .order }
+taken x = record { next = x .next; number = TAKEN; writes = x .writes; order = x .order }
 
 -- a refusal writes nothing, orders nothing and leaves the state
 abbrev pub refused : ℕ → Device → Out
-refused n d = record { next = d; number = n; said = []; order = Nothing }
+refused n d = record { next = d; number = n; writes = []; order = Nothing }
 
 -- ROOM comes before all else
 unfoldable pub within : ℕ → Device → Out → Out
@@ -135,10 +136,10 @@ within room d x = cond (ltb room roomMin) (refused ROOM d) x
 
 -- what the code has done by x, where what x writes begins at index `at` of the output
 abbrev pub doneAt : ℕ → Done → Taken
-doneAt at x = record { device = x .next; written = at + length (sends (x .said)); order = x .order }
+doneAt at x = record { device = x .next; written = at + length (framesBytes (x .writes)); order = x .order }
 
-abbrev pub answerOf : Out → Answer
-answerOf x = record { device = x .next; number = x .number; written = length (sends (x .said)); order = x .order }
+abbrev pub replied : Out → Reply
+replied x = record { device = x .next; number = x .number; written = length (framesBytes (x .writes)); order = x .order }
 
 -- an order's number, as callers that know no enums have it, and its values: where its bytes stand in the memory of commands, how many they are, LDRO, and
 -- whether the radio listens first
@@ -157,25 +158,25 @@ orderValues (Transmit at n listen) = at ∷ n ∷ 0 ∷ yes listen ∷ []
 orderValues Receive = 0 ∷ 0 ∷ 0 ∷ 0 ∷ []
 
 -- an answer in numbers: 01's number, the count of bytes written, the order and its values
-unfoldable pub answerNumbers : Answer → List ℕ
-answerNumbers a = a .number ∷ a .written ∷ orderNumber (a .order) ∷ orderValues (a .order)
+unfoldable pub replyNumbers : Reply → List ℕ
+replyNumbers a = a .number ∷ a .written ∷ orderNumber (a .order) ∷ orderValues (a .order)
 
 -- ---- the contracts
 
 -- of what an event does that is taken: what r says is x's, and the output is as it was but for x's frames, which stand in it from index `at` on
 pub record Gives (x : Done) (o : List ℕ) (at : ℕ) (r : Taken) (o' : List ℕ) : Type 0 where
   pub does : r ≡ doneAt at x
-  pub writes : o' ≡ lay at (sends (x .said)) o
+  pub writes : o' ≡ lay at (framesBytes (x .writes)) o
 
 -- of an event that is lent no output: the next state and the answer in numbers are x's
-pub record Tells (x : Out) (r : Answer) : Type 0 where
+pub record Returns (x : Out) (r : Reply) : Type 0 where
   pub state : r .device ≡ x .next
-  pub numbers : answerNumbers r ≡ answerNumbers (answerOf x)
+  pub numbers : replyNumbers r ≡ replyNumbers (replied x)
 
 -- of one that is: and the output is as it was but for x's frames at its start
-pub record Answers (x : Out) (o : List ℕ) (r : Answer) (o' : List ℕ) : Type 0 where
-  pub tells : Tells x r
-  pub writes : o' ≡ lay 0 (sends (x .said)) o
+pub record Replies (x : Out) (o : List ℕ) (r : Reply) (o' : List ℕ) : Type 0 where
+  pub returns : Returns x r
+  pub writes : o' ≡ lay 0 (framesBytes (x .writes)) o
 
 -- ---- the order when there is nothing to send
 

@@ -1,10 +1,10 @@
 // The device's state and its answers, and the steps that all events share.
 ghost use mathlib.Core.Path.{_≡_};
-ghost use Rattle.control.specs.Control.{powerUp, withLink, withAir, withInbox, withRadio, deaf, stalled, idle};
+ghost use Rattle.control.specs.Control.{powerUp, withLink, withAir, withInbox, withRadio, receptionCleared, stalled, idle};
 ghost use Rattle.control.specs.Control as C;
-ghost use Rattle.numbers.specs.Numbers as N;
+ghost use Rattle.status.specs.Numbers as N;
 use frame::FRAME_MAX;
-use numbers::TAKEN;
+use status::TAKEN;
 
 // The least output that an event takes, the longest frame: 01 "Numbers that come back", ROOM.
 pub const ROOM_MIN: usize = FRAME_MAX;
@@ -83,7 +83,7 @@ pub struct Taken {
 }
 
 // What an event answers: 01's number too.
-pub struct Answer {
+pub struct Reply {
     pub device: Device,
     pub number: u8,
     pub written: usize,
@@ -131,7 +131,7 @@ pub fn done(d: Device, written: usize, order: Order) -> Taken
 }
 
 // An event that is taken, by what it does.
-pub fn take(t: Taken) -> Answer
+pub fn take(t: Taken) -> Reply
     ensures { λ r. ⌜ r ≡ record { device = t .device; number = N.TAKEN; written = t .written; order = t .order } ⌝ }
 {
     let device = t.device;
@@ -140,10 +140,10 @@ pub fn take(t: Taken) -> Answer
 }
 
 // The same, part by part.
-pub fn accept(d: Device, count: usize, given: Order) -> Answer
+pub fn accept(d: Device, count: usize, given: Order) -> Reply
     ensures { λ r. ⌜ r ≡ record { device = d; number = N.TAKEN; written = count; order = given } ⌝ }
 {
-    Answer {
+    Reply {
         device: d,
         number: TAKEN,
         written: count,
@@ -152,10 +152,10 @@ pub fn accept(d: Device, count: usize, given: Order) -> Answer
 }
 
 // An event that is refused.
-pub fn refuse(d: Device, number: u8) -> Answer
+pub fn refuse(d: Device, number: u8) -> Reply
     ensures { λ r. ⌜ r ≡ record { device = d; number = number; written = 0; order = Order.Nothing } ⌝ }
 {
-    Answer {
+    Reply {
         device: d,
         number,
         written: 0,
@@ -265,8 +265,8 @@ pub fn idle(receiving: bool) -> Order
 }
 
 // Nothing is received, and nothing is held.
-pub fn deaf(i: Inbox) -> Inbox
-    ensures { λ r. ⌜ r ≡ deaf i ⌝ }
+pub fn clear_reception(i: Inbox) -> Inbox
+    ensures { λ r. ⌜ r ≡ receptionCleared i ⌝ }
 {
     Inbox {
         receiving: false,

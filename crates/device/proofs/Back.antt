@@ -31,13 +31,13 @@ use Rattle.rx.specs.Ranges.{RxIn}
 use Rattle.rx.proofs.Laws.{length-rx, rx-form-back}
 use Rattle.answer.specs.Answers.{configuredForm, configuredBytes, txDoneForm, txDoneMax, txDoneBytes, answerForm, answerKind, answerName, answerBytes}
 use Rattle.answer.proofs.Laws.{answer-is}
-use Rattle.verdict.specs.Judging.{has, formOf, fitsWritten, judge}
-use Rattle.verdict.specs.declared.Kinds.the-variants as K
+use Rattle.wellformed.specs.Checking.{has, formOf, fitsWritten, check}
+use Rattle.wellformed.specs.declared.Kinds.the-variants as K
 use Rattle.writer.specs.Writing.{writeAnswer, writeLeft}
 use Rattle.message.proofs.Laws.{answer-frame}
-use Rattle.board.specs.Board.{Board, infoOf, uidsOf}
+use Rattle.board.specs.Board.{Board, boardInfo, uidsOf}
 use Rattle.device.specs.State.{Config, Setting, Packet}
-use Rattle.device.specs.Messages.{Message, payload, wire, ok, okInfo, okConfigured, err, txDone, yes, rxValue, rx}
+use Rattle.device.specs.Messages.{Message, payload, messageBytes, ok, okInfo, okConfigured, err, txDone, yes, rxValue, rx}
 use Rattle.device.specs.Events.{dropsMax}
 use Rattle.device.specs.Ranges.{PacketIn, BoardIn}
 use Rattle.device.specs.Demands.{Back}
@@ -47,8 +47,8 @@ use Rattle.device.proofs.Wires.{Sendable, AllSendable, bodyOf, body-siz
 
 module _ (m : Message) (s : Sendable m) where
   writes : (room : ℕ) → 283 ≤ room
-      → writeAnswer (K.Answers (answerName (m .answer))) (answerKind (m .answer)) (m .tag) (payload m) room ≡ W.Done (length (wire m))
-  unfolding writeAnswer judge has fitsWritten formOf frameAnswer wire
+      → writeAnswer (K.Answers (answerName (m .answer))) (answerKind (m .answer)) (m .tag) (payload m) room ≡ W.Done (length (messageBytes m))
+  unfolding writeAnswer check has fitsWritten formOf frameAnswer messageBytes
   writes room r =
       let n = length (bodyOf m) in
       let l = body-sized m s in
@@ -62,8 +62,8 @@ module _ (m : Message) (s : Sendable m) where
       )
 
   leaves : (d : List ℕ) → 283 ≤ length d
-      → writeLeft (K.Answers (answerName (m .answer))) (answerKind (m .answer)) (m .tag) (payload m) d ≡ lay 0 (wire m) d
-  unfolding writeLeft wire
+      → writeLeft (K.Answers (answerName (m .answer))) (answerKind (m .answer)) (m .tag) (payload m) d ≡ lay 0 (messageBytes m) d
+  unfolding writeLeft messageBytes
   leaves d r = rw (writes (length d) r)
 
   pub back : Back m
@@ -97,13 +97,13 @@ unfolding tagWrong isCommand answerForm answerBytes
 ok-sent t h = record { values = tt; small = h .1; tag = not-zero t h; form = refl }
 
 pub info-sent : (b : Board) → BoardIn b → (t : ℕ) → TagIn t → Sendable (okInfo b t)
-unfolding tagWrong isCommand answerForm answerBytes infoOf
+unfolding tagWrong isCommand answerForm answerBytes boardInfo
 info-sent b i t h =
     record {
       values = i .info;
       small = h .1;
       tag = not-zero t h;
-      form = info-form-of (infoOf b) (i .info) (uidsOf b) (i .mcu-uid) (i .radio-uid) (length-append (b .mcu-uid) (b .radio-uid));
+      form = info-form-of (boardInfo b) (i .info) (uidsOf b) (i .mcu-uid) (i .radio-uid) (length-append (b .mcu-uid) (b .radio-uid));
     }
 
 -- a configuration: its parameters have their types, and its sync word has the length that they say
@@ -151,9 +151,9 @@ rx-sent p i l drops d =
     record {
       rssi = i .rssi;
       snr = i .snr;
-      «freq_err» = i .freq-err;
-      «timestamp_us» = i .time;
-      «crc_valid» = omega (arith, yes-small (p .crc-valid));
+      «freq_err» = i .«freq_err»;
+      «timestamp_us» = i .«timestamp_us»;
+      «crc_valid» = omega (arith, yes-small (p .«crc_valid»));
       «packets_dropped» = omega arith;
       origin = omega arith;
     } in
@@ -162,7 +162,7 @@ rx-sent p i l drops d =
       small = omega arith;
       tag = refl;
       form =
-          rw (rx-form-back (rxValue p drops) v (p .bytes), le-ltb 255 (length (p .bytes)) l, le-ltb 1 (yes (p .crc-valid)) (yes-small (p .crc-valid)))
+          rw (rx-form-back (rxValue p drops) v (p .bytes), le-ltb 255 (length (p .bytes)) l, le-ltb 1 (yes (p .«crc_valid»)) (yes-small (p .«crc_valid»)))
           (eq-eqb (20 + length (p .bytes)) (length (payload (rx p drops)))
           (omega (arith, length-append (rxBytes (rxValue p drops)) (p .bytes), length-rx (rxValue p drops))));
     }

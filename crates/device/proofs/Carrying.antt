@@ -6,7 +6,8 @@ use mathlib.Core.List.{List, [], _∷_, map}
 use Prim.Native.Nat.{ℕ, suc}
 use Rattle.scalar.specs.Bytes.{Each}
 use Rattle.board.specs.Board.{Board}
-use Rattle.device.specs.Demands.{System, History, onward, after, history, Demand1Seen, Contents, Demand2Seen, Demand2Wire, Demand3, outcomes, InTime, DropCount}
+use Rattle.device.specs.Demands.{System, History, onward, after, history, Demand1Seen, Contents}
+use Rattle.device.specs.Demands.{Demand2Seen, Demand2Wire, Demand3, outcomes, InTime, DropCount}
 
 -- The device y goes in step with z: what y is given is given to z by g, and R joins their states. R may say more of the two states than is asked for here.
 pub record InStep (y z : System) (g : y .Given → z .Given) (R : y .State → z .State → Type 0) : Type 0 where
@@ -49,7 +50,8 @@ module _ {y z : System} {g : y .Given → z .Given} {R : y .State → z .State �
           bytes = rw (answers, a .bytes);
         }
 
-  alike-after : (cs : List (y .Given)) → Each (y .GivenIn) cs → {h : History y} {k : History z} → Alike y z R h k → Alike y z R (after y h cs) (after z k (map g cs))
+  alike-after : (cs : List (y .Given)) → Each (y .GivenIn) cs → {h : History y} {k : History z} → Alike y z R h k
+      → Alike y z R (after y h cs) (after z k (map g cs))
   unfolding after
   alike-after [] l a = a
   alike-after (c ∷ cs) l a = alike-after cs (l .1) (alike-next a c (l .0))
@@ -71,7 +73,7 @@ module _ {y z : System} {g : y .Given → z .Given} {R : y .State → z .State �
         let a = alike cs l in
         let e = answers a c i in
         record {
-          tells = rw (e, p .room c, p .event c, a .observer) (d .tells);
+          returns = rw (e, p .room c, p .event c, a .observer) (d .returns);
           stays = λ n k.
               let s = d .stays n (rw e at k) in
               (rw e (s .0), rw e (s .1), p .stays (history y cs .device) (history z (map g cs) .device) (a .device) c i n k);
@@ -92,7 +94,7 @@ module _ {y z : System} {g : y .Given → z .Given} {R : y .State → z .State �
         let a = alike cs l in
         let e = answers a c i in
         record {
-          tells = rw (e, p .event c, a .tally) (d .tells);
+          returns = rw (e, p .event c, a .tally) (d .returns);
           alone = λ k q. let s = d .alone (rw e at k) (rw (p .event c, a .tally) at q) in (rw e (s .0), rw e (s .1));
         }
 
@@ -111,7 +113,7 @@ module _ {y z : System} {g : y .Given → z .Given} {R : y .State → z .State �
           before = d .before;
           places = rw (a .tally, r, w) (d .places);
           one = rw r (d .one);
-          few = rw (r, w) (d .few);
+          bounded = rw (r, w) (d .bounded);
           each = λ c i. rw (alike-next a c i .tally, answers a c i, a .tally) (d .each (g c) (p .givenIn c i));
           whole = rw (a .bytes, a .tally) (d .whole);
           most = λ c i. rw (answers a c i) (d .most (g c) (p .givenIn c i));

@@ -21,7 +21,7 @@ use Rattle.rx.specs.Rx.{rxOf, rxBytes}
 use Rattle.rx.specs.declared.Rx.{Rx}
 use Rattle.answer.specs.Answers.{answerKind, answerBytes}
 use Rattle.answer.specs.declared.Answer.the-variants as A
-use Rattle.board.specs.Board.{Board, infoOf, uidsOf}
+use Rattle.board.specs.Board.{Board, boardInfo, uidsOf}
 use Rattle.device.specs.State.{Setting, Tx, Radio, free, listening, onAir, orphan, configuring, Packet, Air}
 use Rattle.device.specs.State.{Event, byte, tick, clear, busy, sent, configured, fault, packet, request, disconnect, nothing}
 use Rattle.device.specs.Messages.{Frame, frame, Message, message, payload, seen}
@@ -29,7 +29,9 @@ use Rattle.device.specs.Frames.{Received, damaged, command}
 use Rattle.device.specs.Reading.{frameIn, tagged, brings}
 use Rattle.device.specs.Tally.{Tally, ifTaken}
 use Rattle.device.specs.Observer.{Observer}
-use Rattle.device.specs.Due.{isOnAir, isConfiguring, unlessError, judged, runBrings, byteBrings, commandError, opened, errDue, broughtAnswer, configuredAnswer, faultAnswer, inSession, answersDue, radioReport, cancels, cancelsAfter, endReports, setReports, broughtReports, reportsDue, oldest, deliveriesDue, messagesDue, broughtOrder, atWork, orderDue}
+use Rattle.device.specs.Due.{isOnAir, isConfiguring, unlessError, judgedBy, runBrings, byteBrings, commandError, opened, errDue, broughtAnswer}
+use Rattle.device.specs.Due.{configuredAnswer, faultAnswer, inSession, answersDue, radioReport, cancels, cancelsAfter, endReports}
+use Rattle.device.specs.Due.{setReports, broughtReports, reportsDue, oldest, deliveriesDue, messagesDue, broughtOrder, atWork, orderDue}
 use Rattle.device.specs.Demands.{damaged?, runDamaged, endsDamaged, eframes, dropCounts, request?, due}
 
 -- ---- messages that both readings pass over
@@ -76,7 +78,8 @@ plain-after (some c) ws = plain-cancels ws
 
 plain-end : (result airtime : ℕ) (a : Air) → Each Plain (endReports result airtime a)
 plain-end result airtime a =
-    each-append Plain (radioReport result airtime (a .radio)) (cancelsAfter (a .pending) (a .waiting)) (plain-report result airtime (a .radio)) (plain-after (a .pending) (a .waiting))
+    each-append Plain (radioReport result airtime (a .radio)) (cancelsAfter (a .pending) (a .waiting))
+    (plain-report result airtime (a .radio)) (plain-after (a .pending) (a .waiting))
 
 plain-either : (v : Bool) (ms ns : List Message) → Each Plain ms → Each Plain ns → Each Plain (cond v ms ns)
 plain-either true ms ns h k = h
@@ -112,17 +115,18 @@ plain-command b (some code) kind t p a = (plain-err code t, tt)
 plain-command b none kind t p a = go (eqb kind SET-CONFIG) (eqb kind GET-INFO)
   where
     go : (set info : Bool)
-        → Each Plain (cond set [] (cond info (message (suc t) (A.Info (infoOf b)) (uidsOf b) ∷ []) (message (suc t) A.Ok [] ∷ [])) ++ cond set (setReports a) [])
+        → Each Plain
+        (cond set [] (cond info (message (suc t) (A.Info (boardInfo b)) (uidsOf b) ∷ []) (message (suc t) A.Ok [] ∷ [])) ++ cond set (setReports a) [])
     go true info = plain-set a
     go false true = (record { rx = refl; eframe = refl }, tt)
     go false false = (record { rx = refl; eframe = refl }, tt)
 
 module _ (b : Board) (t : Tally) (k : Observer) where
-  abbrev Says : Event → Type 0
-  Says e = Each Plain (answersDue b e t k ++ reportsDue b e t k)
+  abbrev WritesDue : Event → Type 0
+  WritesDue e = Each Plain (answersDue b e t k ++ reportsDue b e t k)
 
   -- where no damaged run ends
-  plain-run : (fs : List Frame) → damaged? (tagged fs) ≡ false → let x = judged b (tagged fs) k in Each Plain (broughtAnswer b x ++ broughtReports x (k .air))
+  plain-run : (fs : List Frame) → damaged? (tagged fs) ≡ false → let x = judgedBy b (tagged fs) k in Each Plain (broughtAnswer b x ++ broughtReports x (k .air))
   plain-run [] h = absurd (true≢false h)
   plain-run (frame kind zero p ∷ fs) h = absurd (true≢false h)
   plain-run (frame kind (suc u) p ∷ fs) h = plain-command b (commandError b (k .config) (opened (k .air .radio) (k .air .waiting)) kind p) kind u p (k .air)
@@ -142,17 +146,17 @@ module _ (b : Board) (t : Tally) (k : Observer) where
   plain-confirmed : (v : Bool) (r : Radio) → Each Plain (inSession v (configuredAnswer r) ++ [])
   plain-confirmed v r = each-append Plain (inSession v (configuredAnswer r)) [] (plain-session v (configuredAnswer r) (plain-configured r)) tt
 
-  plain-says : (e : Event) → endsDamaged e (t .run) ≡ false → Says e
-  plain-says (byte n) h = plain-byte n (t .run) h
-  plain-says tick h = tt
-  plain-says clear h = tt
-  plain-says busy h = plain-end 1 0 (k .air)
-  plain-says (sent airtime) h = plain-end 0 airtime (k .air)
-  plain-says configured h = plain-confirmed (t .session) (k .air .radio)
-  plain-says fault h = plain-failed (t .session) (k .air .radio)
-  plain-says (packet p) h = tt
-  plain-says request h = tt
-  plain-says disconnect h = tt
+  plain-writes : (e : Event) → endsDamaged e (t .run) ≡ false → WritesDue e
+  plain-writes (byte n) h = plain-byte n (t .run) h
+  plain-writes tick h = tt
+  plain-writes clear h = tt
+  plain-writes busy h = plain-end 1 0 (k .air)
+  plain-writes (sent airtime) h = plain-end 0 airtime (k .air)
+  plain-writes configured h = plain-confirmed (t .session) (k .air .radio)
+  plain-writes fault h = plain-failed (t .session) (k .air .radio)
+  plain-writes (packet p) h = tt
+  plain-writes request h = tt
+  plain-writes disconnect h = tt
 
   -- ---- a damaged run
 
@@ -203,8 +207,8 @@ module _ (b : Board) (t : Tally) (k : Observer) where
   reads e h false q =
       let ms = answersDue b e t k ++ reportsDue b e t k in
       record {
-        damages = rw (undelivered e h, q) (plain-eframes ms (plain-says e q));
-        drops = rw (undelivered e h) (plain-drops ms (plain-says e q));
+        damages = rw (undelivered e h, q) (plain-eframes ms (plain-writes e q));
+        drops = rw (undelivered e h) (plain-drops ms (plain-writes e q));
       }
 
   -- a request

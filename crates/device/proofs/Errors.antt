@@ -13,12 +13,12 @@ use lib.ListN.{length}
 use Rattle.scalar.specs.Scalars.{get}
 use Rattle.kind.specs.Kinds.{isCommand, EPARAM, ELENGTH, EMODULATION, EUNKNOWN-CMD, EBUSY}
 use Rattle.modulation.specs.Lora.{loraSize}
-use Rattle.modulation.specs.Modulations.{LORA, modulation-id, configOf}
+use Rattle.modulation.specs.Modulations.{LORA, «modulation_id», configOf}
 use Rattle.command.specs.Commands.{flags}
 use Rattle.board.specs.Board.{Board}
 use Rattle.board.specs.Params.{paramsGood}
 use Rattle.device.specs.State.{Config, Setting, Tx, Radio, free, listening, onAir, orphan, configuring, air, tagsOf, open#}
-use Rattle.device.specs.Frames.{objects, unconfigured}
+use Rattle.device.specs.Frames.{errorFor, unconfigured}
 use Rattle.device.specs.Due.{payloadError, valueError, commandError, opened}
 
 -- ---- how many TX are open
@@ -62,14 +62,14 @@ tx-tests true true full = refl
 
 module _ (b : Board) (n : ℕ) where
   abbrev Same : Option Config → ℕ → List ℕ → Type 0
-  Same k kind p = objects b (unconfigured k) n kind p ≡ commandError b k n kind p
+  Same k kind p = errorFor b (unconfigured k) n kind p ≡ commandError b k n kind p
 
   set-error : (k : Option Config) (p : List ℕ) → Same k 3 p
   unfolding isCommand
   set-error none [] = refl
   set-error (some x) [] = refl
-  set-error none (m ∷ ps) = set-tests (eqb (get modulation-id (m ∷ ps)) LORA) _ (eqb (length ps) loraSize) _ (paramsGood b (configOf (m ∷ ps)))
-  set-error (some x) (m ∷ ps) = set-tests (eqb (get modulation-id (m ∷ ps)) LORA) _ (eqb (length ps) loraSize) _ (paramsGood b (configOf (m ∷ ps)))
+  set-error none (m ∷ ps) = set-tests (eqb (get «modulation_id» (m ∷ ps)) LORA) _ (eqb (length ps) loraSize) _ (paramsGood b (configOf (m ∷ ps)))
+  set-error (some x) (m ∷ ps) = set-tests (eqb (get «modulation_id» (m ∷ ps)) LORA) _ (eqb (length ps) loraSize) _ (paramsGood b (configOf (m ∷ ps)))
 
   tx-error : (k : Option Config) (p : List ℕ) → Same k 4 p
   unfolding isCommand

@@ -15,20 +15,21 @@ use borrow.Author.Tests.{leb-true, leb-false}
 use Rattle.scalar.specs.Bytes.{Each}
 use Rattle.board.specs.Board.{Board}
 use Rattle.device.specs.State.{Radio, free, listening, onAir, orphan, configuring, Event, Input, held, tagsOf, open#}
-use Rattle.device.specs.Messages.{Message, wires, seen}
+use Rattle.device.specs.Messages.{Message, messagesBytes, seen}
 use Rattle.device.specs.Events.{Out, step, reply}
 use Rattle.device.specs.Tally.{Entry, entry, waits, open?, Tally, tallied, dones, reportedTags, newlyReported}
 use Rattle.device.specs.Observer.{Observer, observed}
 use Rattle.device.specs.Due.{numberDue, messagesDue, orderDue}
 use Rattle.device.specs.Ranges.{InputIn, BoardIn}
-use Rattle.device.specs.Demands.{Demand1Seen, messagesNext, Contents, Demand2Seen, eframes, Demand2Wire, Demand3, InTime, DropCount, dropCounts, defined, History, onward, after, history, Closed, was-reported, was-dropped, closed, opens, outcomes, placeOf}
+use Rattle.device.specs.Demands.{Demand1Seen, messagesNext, Contents, Demand2Seen, eframes, Demand2Wire, Demand3, InTime, DropCount, dropCounts}
+use Rattle.device.specs.Demands.{defined, History, onward, after, history, Closed, was-reported, was-dropped, closed, openCount, outcomes, placeOf}
 use Rattle.device.proofs.Laws.{atRadio, inQueue, reportedOf, dones-append}
 use Rattle.device.proofs.Wires.{AllSendable, sendable-append, wires-append, read-all}
 use Rattle.device.proofs.Back.{all-back}
 use Rattle.device.proofs.Ranges as R
 use Rattle.device.proofs.Refusals.{demand1}
 use Rattle.device.proofs.Keeping.{length-open, tallyOf, tallyOut, Shaped, is-free, none-waits, Keeps, keeps, passed}
-use Rattle.device.proofs.Observing.{knownOf, knownOut, Tells, tells}
+use Rattle.device.proofs.Observing.{knownOf, knownOut, MatchesDue, returns}
 use Rattle.device.proofs.Due.{damage-due, eframes-due, drops-due}
 
 -- ---- good histories
@@ -40,7 +41,7 @@ record Good (b : Board) (h : History (defined b)) : Type 0 where
   ranges : R.StateIn (h .device)
   sent : List Message
   sendable : AllSendable sent
-  bytes : h .bytes ≡ wires sent
+  bytes : h .bytes ≡ messagesBytes sent
   wrote : dones (map seen sent) ≡ reportedOf before
   lost : ℕ
   knows : h .observer ≡ knownOf lost (h .device)
@@ -72,13 +73,15 @@ module _ (b : Board) (board : BoardIn b) where
 
     tally-next : onward (defined b) h i .tally ≡ tallyOf (g .before ++ kept .more) (step b (h .device) i .next)
     unfolding onward
-    tally-next = read-off (i .event) (step b (h .device) i) (h .tally) (ranged .sendable) ∙ ap (tallyOut (i .event) (step b (h .device) i)) (g .agrees) ∙ kept .agrees
+    tally-next =
+        let o = step b (h .device) i in
+        read-off (i .event) o (h .tally) (ranged .sendable) ∙ ap (tallyOut (i .event) o) (g .agrees) ∙ kept .agrees
 
     reports-next : newlyReported (h .tally .txs) (onward (defined b) h i .tally .txs) ≡ reportedOf (kept .more)
     reports-next = ap₂ (λ (t u : Tally). newlyReported (t .txs) (u .txs)) (g .agrees) tally-next ∙ kept .reports
 
-    told : Tells b (g .before) (g .lost) (h .device) (i .event) (step b (h .device) i)
-    told = tells b (g .before) (g .lost) (h .device) i (g .drops) (none-waits (g .shaped))
+    told : MatchesDue b (g .before) (g .lost) (h .device) (i .event) (step b (h .device) i)
+    told = returns b (g .before) (g .lost) (h .device) i (g .drops) (none-waits (g .shaped))
 
     observer-next : onward (defined b) h i .observer ≡ knownOf (told .lost) (step b (h .device) i .next)
     unfolding onward
@@ -110,7 +113,7 @@ module _ (b : Board) (board : BoardIn b) where
   good-after (i ∷ is) l g = good-after is (l .1) (good-next g i (l .0))
 
   good : (is : List Input) → Each InputIn is → Good b (history (defined b) is)
-  unfolding history wires
+  unfolding history messagesBytes
   good is l =
       good-after is l record {
         before = [];
@@ -129,22 +132,22 @@ module _ (b : Board) (board : BoardIn b) where
   -- ---- demand 1, by what was seen
 
   pub demand1-seen : (is : List Input) → Each InputIn is → (i : Input) → InputIn i → Demand1Seen (defined b) is i
-  unfolding wires
+  unfolding messagesBytes
   demand1-seen is l i e =
       let g = good is l in
       let s = history (defined b) is .device in
       let d = demand1 b s i in
       record {
-        tells = d .tells ∙ ap (numberDue (i .room) (i .event)) (sym (g .knows));
-        stays = λ n k. let r = d .stays n (sym (d .tells) ∙ k) in (ap (λ o. wires (o .written)) r, ap (λ o. o .order) r, ap (λ o. o .next) r);
+        returns = d .returns ∙ ap (numberDue (i .room) (i .event)) (sym (g .knows));
+        stays = λ n k. let r = d .stays n (sym (d .returns) ∙ k) in (ap (λ o. messagesBytes (o .written)) r, ap (λ o. o .order) r, ap (λ o. o .next) r);
       }
 
   -- ---- what is written and ordered
 
   -- the messages that are written are those that are due
-  says-due : (is : List Input) → Each InputIn is → (i : Input) → InputIn i
+  writes-due : (is : List Input) → Each InputIn is → (i : Input) → InputIn i
       → step b (history (defined b) is .device) i .written ≡ messagesNext b (defined b) is i
-  says-due is l i e =
+  writes-due is l i e =
       let g = good is l in
       told g i e .written ∙ sym (ap₂ (messagesDue b (step b (history (defined b) is .device) i .number) (i .event)) (g .agrees) (g .knows))
 
@@ -153,7 +156,7 @@ module _ (b : Board) (board : BoardIn b) where
       let g = good is l in
       record {
         count = refl;
-        bytes = ap wires (says-due is l i e);
+        bytes = ap messagesBytes (writes-due is l i e);
         order = told g i e .order ∙ sym (ap₂ (orderDue b (step b (history (defined b) is .device) i .number) (i .event)) (g .agrees) (g .knows));
       }
 
@@ -163,18 +166,18 @@ module _ (b : Board) (board : BoardIn b) where
   demand2-wire is l i e =
       let ms = step b (history (defined b) is .device) i .written in
       let s = ranged (good is l) i e .sendable in
-      record { split = read-all ms s ∙ ap (map seen) (says-due is l i e); back = rw (← says-due is l i e) (all-back ms s) }
+      record { split = read-all ms s ∙ ap (map seen) (writes-due is l i e); back = rw (← writes-due is l i e) (all-back ms s) }
 
   -- ---- demand 2, damaged frames, by what was seen
 
   pub demand2-seen : (is : List Input) → Each InputIn is → (i : Input) → InputIn i → Demand2Seen (defined b) is i
-  unfolding wires
+  unfolding messagesBytes
   demand2-seen is l i e =
       let h = history (defined b) is in
       let n = step b (h .device) i .number in
       let c = contents is l i e in
       record {
-        tells = ap eframes (demand2-wire is l i e .split) ∙ eframes-due b (h .tally) (h .observer) n (i .event);
+        returns = ap eframes (demand2-wire is l i e .split) ∙ eframes-due b (h .tally) (h .observer) n (i .event);
         alone = λ k d.
             let m = damage-due b (h .tally) (h .observer) (i .event) d in
             (c .bytes ∙ rw (k, m .0) (append-nil _), c .order ∙ rw k (m .1));
@@ -208,7 +211,7 @@ module _ (b : Board) (board : BoardIn b) where
         before = g .before;
         places = ap (λ (t : Tally). t .txs) (g .agrees);
         one = at-most-one (h .device .air .radio);
-        few = rw (length-open (h .device)) (g .ranges .air .few);
+        bounded = rw (length-open (h .device)) (g .ranges .air .bounded);
         each = λ i e. ap dones (read-all (step b (h .device) i .written) (ranged g i e .sendable)) ∙ kept g i e .writes ∙ sym (reports-next g i e);
         whole = rw (g .bytes, read-all (g .sent) (g .sendable), g .agrees, closed-first, none-open, append-nil) (g .wrote);
         most = λ i e. ranged g i e .most;
@@ -240,34 +243,37 @@ module _ (b : Board) (board : BoardIn b) where
   stays (i ∷ is) l g = le-trans (omega (arith, more g i (l .0))) (stays is (l .1) (good-next g i (l .0)))
 
   -- the TX with number n is closed once as many have ended as are open up to it
-  late : (is : List Input) (l : Each InputIn is) {h : History (defined b)} (g : Good b h) (n : ℕ) → n < closed# g + open# (h .device .air) → suc n ≤ closed# g + outcomes (defined b) h is
+  late : (is : List Input) (l : Each InputIn is) {h : History (defined b)} (g : Good b h) (n : ℕ)
+      → n < closed# g + open# (h .device .air) → suc n ≤ closed# g + outcomes (defined b) h is
       → n < closed# (good-after is l g)
   unfolding good-after after outcomes
   late [] l g n h k = omega arith
   late (i ∷ is) l {h} g n m k = go (leb (open# (onward (defined b) h i .device .air)) 0) refl (late is (l .1) (good-next g i (l .0)) n)
     where
       go : (v : Bool) → leb (open# (onward (defined b) h i .device .air)) 0 ≡ v
-          → (n < closed# (good-next g i (l .0)) + open# (onward (defined b) h i .device .air) → suc n ≤ closed# (good-next g i (l .0)) + outcomes (defined b) (onward (defined b) h i) is
+          → (n < closed# (good-next g i (l .0)) + open# (onward (defined b) h i .device .air)
+          → suc n ≤ closed# (good-next g i (l .0)) + outcomes (defined b) (onward (defined b) h i) is
           → n < closed# (good-after is (l .1) (good-next g i (l .0))))
           → n < closed# (good-after is (l .1) (good-next g i (l .0)))
       go true z ih = omega (arith, no-loss g i (l .0), leb-true (open# (onward (defined b) h i .device .air)) 0 z, stays is (l .1) (good-next g i (l .0)))
       go false z ih = ih (omega (arith, no-loss g i (l .0))) (omega (arith, gained g i (l .0) (leb-false (open# (onward (defined b) h i .device .air)) 0 z)))
 
   -- the same of the tally: how many are open before number n, and its place
-  queue-opens : (n : ℕ) (ts : List ℕ) → n ≤ length ts → opens (take n (inQueue ts)) ≡ n
-  unfolding opens
+  queue-opens : (n : ℕ) (ts : List ℕ) → n ≤ length ts → openCount (take n (inQueue ts)) ≡ n
+  unfolding openCount
   queue-opens zero ts h = refl
   queue-opens (suc n) [] h = absurd (not-suc-le-zero h)
   queue-opens (suc n) (t ∷ ts) h = omega (arith, queue-opens n ts (le-of-suc-le-suc h))
 
-  radio-opens : (n : ℕ) (ts us : List ℕ) → n ≤ length (ts ++ us) → opens (take n (atRadio ts ++ inQueue us)) ≡ n
-  unfolding opens
+  radio-opens : (n : ℕ) (ts us : List ℕ) → n ≤ length (ts ++ us) → openCount (take n (atRadio ts ++ inQueue us)) ≡ n
+  unfolding openCount
   radio-opens n [] us h = queue-opens n us h
   radio-opens zero (t ∷ ts) us h = refl
   radio-opens (suc n) (t ∷ ts) us h = omega (arith, radio-opens n ts us (le-of-suc-le-suc h))
 
-  open-before : (n : ℕ) (c : List Closed) (ts us : List ℕ) → n ≤ length c + length (ts ++ us) → n ≤ length c + opens (take n (map closed c ++ (atRadio ts ++ inQueue us)))
-  unfolding opens
+  open-before : (n : ℕ) (c : List Closed) (ts us : List ℕ) → n ≤ length c + length (ts ++ us)
+      → n ≤ length c + openCount (take n (map closed c ++ (atRadio ts ++ inQueue us)))
+  unfolding openCount
   open-before n [] ts us h = omega (arith, radio-opens n ts us (omega arith))
   open-before zero (x ∷ c) ts us h = zero-le
   open-before (suc n) (was-reported t ∷ c) ts us h = omega (arith, open-before n c ts us (omega arith))
@@ -286,7 +292,7 @@ module _ (b : Board) (board : BoardIn b) where
       let s = history (defined b) is .device in
       let a : length (history (defined b) is .tally .txs) ≡ closed# g + open# (s .air) =
       ap (λ (t : Tally). length (t .txs)) (g .agrees) ∙ rw (length-append, length-map, length-open s) in
-      let o : n ≤ closed# g + opens (take n (history (defined b) is .tally .txs)) =
+      let o : n ≤ closed# g + openCount (take n (history (defined b) is .tally .txs)) =
       rw (g .agrees) (open-before n (g .before) (held (s .air .radio)) (tagsOf (s .air .waiting)) (omega arith)) in
       rw (e .agrees) (closed-at (e .before) _ n (entry 0 waits) (late js r g n (omega arith) (omega arith)))
 

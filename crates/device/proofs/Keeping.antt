@@ -15,15 +15,21 @@ use Rattle.kind.specs.Kinds.{SET-CONFIG, TX, RX-START, RX-STOP, GET-INFO, isCom
 use Rattle.scalar.specs.Scalars.{get}
 use Rattle.command.specs.Commands.{flags}
 use Rattle.board.specs.Board.{Board}
-use Rattle.device.specs.State.{Config, Setting, Tx, Radio, free, listening, onAir, orphan, configuring, Packet, Inbox, State, link, air, state, deaf, held, tagsOf, open#, runs?, stalled}
-use Rattle.device.specs.State.{Event, byte, tick, clear, busy, sent, configured, fault, packet, request, disconnect, Input, Order, nothing, standby, configure, transmit, receive, free?}
+use Rattle.device.specs.State.{Config, Setting, Tx, Radio, free, listening, onAir, orphan, configuring, Packet}
+use Rattle.device.specs.State.{Inbox, State, link, air, state, noReception, held, tagsOf, open#, runs?, stalled}
+use Rattle.device.specs.State.{Event, byte, tick, clear, busy, sent, configured, fault, packet, request}
+use Rattle.device.specs.State.{disconnect, Input, Order, nothing, standby, configure, transmit, receive, free?}
 use Rattle.device.specs.Messages.{Frame, Message, ok, okInfo, err, txDone, seen}
-use Rattle.device.specs.Frames.{Received, damaged, command, objection, settingOf, txOf}
+use Rattle.device.specs.Frames.{Received, damaged, command, errorOf, settingOf, txOf}
 use Rattle.device.specs.Reading.{brings}
-use Rattle.device.specs.Events.{Out, taken, changed, next, refused, begun, listens, idle, says, onTx, onSet, onCommand, turned, unless, onReceived, onByte, onPacket, onRequest, onEvent, endSession, unlessRoom, step, roomMin, ticksMax}
-use Rattle.device.specs.Tally.{sessionEnded, afterTime, withTxs, radioReported, Entry, Tally, tally, ifTaken, afterTaken, afterOrder, unlessConfigure, settled, noted, dones, newlyReported}
+use Rattle.device.specs.Events.{Out, taken, changed, next, refused, begun, listens, idle, writesFirst, onTx, onSet, onCommand, turned, unless}
+use Rattle.device.specs.Events.{onReceived, onByte, onPacket, onRequest, onEvent, endSession, unlessRoom, step, roomMin, ticksMax}
+use Rattle.device.specs.Tally.{sessionEnded, afterTime, withTxs, radioReported, Entry, Tally, tally, ifTaken}
+use Rattle.device.specs.Tally.{afterTaken, afterOrder, unlessConfigure, nothingPending, noted, dones, newlyReported}
 use Rattle.device.specs.Demands.{Closed, was-reported, was-dropped, closed, outcome?}
-use Rattle.device.proofs.Laws.{run-brings, atRadio, inQueue, past-radio, past-reported, past-dropped, past-started, past-newly, closed-append, queue-radio, queue-reported, queue-dropped, queue-more, length-queue, newly-more, newly-self, newly-reported, newly-dropped, reportedOf, all-reported, none-reported, dones-append, dones-cancelled, no-err}
+use Rattle.device.proofs.Laws.{run-brings, atRadio, inQueue, past-radio, past-reported, past-dropped, past-started, past-newly, closed-append}
+use Rattle.device.proofs.Laws.{queue-radio, queue-reported, queue-dropped, queue-more, length-queue, newly-more, newly-self}
+use Rattle.device.proofs.Laws.{newly-reported, newly-dropped, reportedOf, all-reported, none-reported, dones-append, dones-cancelled, no-err}
 
 -- ---- the tally of a state
 
@@ -95,7 +101,8 @@ length-open s = simp (length-append, length-map)
 same : (c : List Closed) (s : State) (e : Event) (o : Out) → tallyOut e o (tallyOf c s) ≡ tallyOf c (o .next) → openOf (o .next) ≡ openOf s → Shaped (o .next)
     → dones (map seen (o .written)) ≡ [] → (0 < open# (o .next .air) → passed e (o .number) ≡ 0) → Keeps c s e o
 same c s e o h k q d z =
-    keeps-by [] (rw append-nil h) q d (rw (append-nil, k, past-newly, newly-self)) (omega (arith, length-open s, length-open (o .next), ap length k)) (λ y. omega (arith, z y))
+    keeps-by [] (rw append-nil h) q d (rw (append-nil, k, past-newly, newly-self))
+    (omega (arith, length-open s, length-open (o .next), ap length k)) (λ y. omega (arith, z y))
 
 -- ---- a TX that starts is with the radio
 
@@ -121,7 +128,7 @@ unfolding idle
 idle-ordered true t = refl
 idle-ordered false t = refl
 
-idle-settles : (v : Bool) (t : Tally) → unlessConfigure (idle v) t ≡ settled t
+idle-settles : (v : Bool) (t : Tally) → unlessConfigure (idle v) t ≡ nothingPending t
 unfolding idle
 idle-settles true t = refl
 idle-settles false t = refl
@@ -190,7 +197,8 @@ module _ (b : Board) (c : List Closed) where
 
     abbrev Ends : Event → Option Setting → State → Type 0
     Ends e none s = (fs : List Frame) (o : Order) → afterTaken e fs o (tallyOf c s) ≡ afterOrder o (ended (tallyOf c s))
-    Ends e (some d) s = (fs : List Frame) (g : Config) (l : Bool) → afterTaken e fs (configure g l) (tallyOf c s) ≡ afterOrder (configure g l) (ended (tallyOf c s))
+    Ends e (some d) s = (fs : List Frame) (g : Config) (l : Bool)
+        → afterTaken e fs (configure g l) (tallyOf c s) ≡ afterOrder (configure g l) (ended (tallyOf c s))
 
     -- the TX with the radio, listening or on air, has the tag t
     module _ (e : Event) (ms : List Message) (v : Bool) (t : ℕ) (k : Option Config) (wrote-one : dones (map seen ms) ≡ t ∷ []) where
@@ -201,7 +209,8 @@ module _ (b : Board) (c : List Closed) where
       ended-next none [] h =
           keeps-by (was-reported t ∷ []) (h _ _ ∙ simp laws) is-free wrote-one (simp laws) (omega (arith, begun-open v t [])) (λ y. one (outcome? e))
       ended-next none (w ∷ ws) h =
-          keeps-by (was-reported t ∷ []) (h _ _ ∙ simp laws) (begun-shape (listens k (w .flags)) (w .tag)) wrote-one (simp laws (ap (λ ts. t ∷ ts) (newly-self (inQueue (tagsOf ws)))))
+          keeps-by (was-reported t ∷ []) (h _ _ ∙ simp laws) (begun-shape (listens k (w .flags)) (w .tag)) wrote-one
+          (simp laws (ap (λ ts. t ∷ ts) (newly-self (inQueue (tagsOf ws)))))
           (omega (arith, begun-open v t (w .tag ∷ tagsOf ws), begun-open (listens k (w .flags)) (w .tag) (tagsOf ws))) (λ y. one (outcome? e))
       ended-next (some d) ws h =
           keeps-by (was-reported t ∷ map was-reported (tagsOf ws)) (h _ _ _ ∙ simp laws) is-configuring (rw (dones-append, wrote-one) (simp laws)) (simp laws)
@@ -217,7 +226,8 @@ module _ (b : Board) (c : List Closed) where
       idle-next (some d) h q y = same c _ e _ (h _ _ _ ∙ rw (empty, y) (simp laws)) (rw empty) is-configuring (rw (append-nil, wrote-none)) (λ z. omega arith)
 
     -- where nothing is pending, settling changes nothing
-    settles : (fs : List Frame) (o : Order) (s : State) → tallyOf c s .pending ≡ false → afterTaken fault fs o (tallyOf c s) ≡ afterOrder o (ended (tallyOf c s))
+    settles : (fs : List Frame) (o : Order) (s : State) → tallyOf c s .pending ≡ false
+        → afterTaken fault fs o (tallyOf c s) ≡ afterOrder o (ended (tallyOf c s))
     settles fs nothing s h = rw h
     settles fs standby s h = rw h
     settles fs (configure g l) s h = refl
@@ -254,10 +264,14 @@ module _ (b : Board) (c : List Closed) where
     kept-fault : {r : Radio} {ws : List Tx} {p : Option Setting} {v : Bool} {k : Option Config} → Shape r ws p v k → Keep fault r ws p v k
     kept-fault (is-free {v = true}) = same c _ fault _ (simp laws) refl is-free refl (λ z. omega arith)
     kept-fault (is-free {v = false}) = same c _ fault _ (simp laws) refl is-free refl (λ z. omega arith)
-    kept-fault (is-listening {t} {ws} {k}) = ended-next fault _ true t k refl none ws (λ fs o. settles fs o (state k (link true n rs) (air (listening t) ws none) i) refl)
-    kept-fault (is-onAir {t} {ws} {p = none} {k = k}) = ended-next fault _ false t k refl none ws (λ fs o. settles fs o (state k (link true n rs) (air (onAir t) ws none) i) refl)
-    kept-fault (is-onAir {t} {ws} {p = some d} {k = k}) = ended-next fault (err ERADIO 0 ∷ txDone CANCELLED 0 t ∷ []) false t k refl (some d) ws (λ fs g l. refl)
-    kept-fault (is-orphan {p = none}) = idle-next fault _ orphan true none refl refl none (λ fs o. settles fs o (state none (link true n rs) (air orphan [] none) i) refl) refl refl
+    kept-fault (is-listening {t} {ws} {k}) =
+        ended-next fault _ true t k refl none ws (λ fs o. settles fs o (state k (link true n rs) (air (listening t) ws none) i) refl)
+    kept-fault (is-onAir {t} {ws} {p = none} {k = k}) =
+        ended-next fault _ false t k refl none ws (λ fs o. settles fs o (state k (link true n rs) (air (onAir t) ws none) i) refl)
+    kept-fault (is-onAir {t} {ws} {p = some d} {k = k}) =
+        ended-next fault (err ERADIO 0 ∷ txDone CANCELLED 0 t ∷ []) false t k refl (some d) ws (λ fs g l. refl)
+    kept-fault (is-orphan {p = none}) =
+        idle-next fault _ orphan true none refl refl none (λ fs o. settles fs o (state none (link true n rs) (air orphan [] none) i) refl) refl refl
     kept-fault (is-orphan {p = some d}) = idle-next fault (err ERADIO 0 ∷ []) orphan true none refl refl (some d) (λ fs g l. refl) refl refl
     kept-fault is-alone = same c _ fault _ (simp laws) refl is-free refl (λ z. omega arith)
     kept-fault (is-configuring {v = true}) = same c _ fault _ (simp laws) refl is-free refl (λ z. omega arith)
@@ -274,9 +288,11 @@ module _ (b : Board) (c : List Closed) where
       kept-end : {r : Radio} {ws : List Tx} {p : Option Setting} {k : Option Config} → Shape r ws p true k → Drops r ws p k
       kept-end is-free h = same c _ e _ (h _ _ (λ t. refl) ∙ simp laws) refl is-free refl (λ z. rw no)
       kept-end (is-listening {t} {ws}) h =
-          keeps-by (was-dropped t ∷ map was-dropped (tagsOf ws)) (h _ _ (λ t. refl) ∙ simp laws) is-free (simp laws) (simp laws) (omega (arith, length-map (tagsOf ws) was-dropped)) (λ z. omega arith)
+          keeps-by (was-dropped t ∷ map was-dropped (tagsOf ws)) (h _ _ (λ t. refl) ∙ simp laws) is-free
+          (simp laws) (simp laws) (omega (arith, length-map (tagsOf ws) was-dropped)) (λ z. omega arith)
       kept-end (is-onAir {t} {ws}) h =
-          keeps-by (was-dropped t ∷ map was-dropped (tagsOf ws)) (h _ _ (λ t. refl) ∙ simp laws) is-alone (simp laws) (simp laws) (omega (arith, length-map (tagsOf ws) was-dropped)) (λ z. omega arith)
+          keeps-by (was-dropped t ∷ map was-dropped (tagsOf ws)) (h _ _ (λ t. refl) ∙ simp laws) is-alone
+          (simp laws) (simp laws) (omega (arith, length-map (tagsOf ws) was-dropped)) (λ z. omega arith)
       kept-end is-orphan h = same c _ e _ (h _ _ (λ t. refl) ∙ simp laws) refl is-alone refl (λ z. rw no)
       kept-end is-configuring h = same c _ e _ (h _ _ (λ t. refl) ∙ simp laws) refl is-configuring refl (λ z. rw no)
 
@@ -287,7 +303,8 @@ module _ (b : Board) (c : List Closed) where
     kept-disconnect false is-configuring = same c _ disconnect _ (simp laws) refl is-configuring refl (λ z. refl)
 
     -- a tick that counts; `u` says that it makes 1000
-    ticks : (u : Bool) → eqb (suc n) ticksMax ≡ u → {r : Radio} {ws : List Tx} {k : Option Config} → Shape r ws none true k → runs? r ≡ false → Keep tick r ws none true k
+    ticks : (u : Bool) → eqb (suc n) ticksMax ≡ u → {r : Radio} {ws : List Tx} {k : Option Config}
+        → Shape r ws none true k → runs? r ≡ false → Keep tick r ws none true k
     ticks true e q j = rw (j, e) (kept-end tick refl q (λ fs o h. ap (afterTime tick) (h _) ∙ rw (j, e)))
     ticks false e q j = rw (j, e) (same c _ tick _ (rw (j, e)) refl q refl (λ z. refl))
 
@@ -334,9 +351,11 @@ module _ (b : Board) (c : List Closed) where
     awake is-configuring = is-configuring
 
     -- an answer of one message that moves no TX
-    said : (f : Received) (m : Message) (o : Order) (j : Inbox) {x : Radio} {ws : List Tx} {v : Bool} {k : Option Config} → Shape x ws none v k → runs? x ≡ false
-        → ((t : Tally) → afterOrder o (noted f (seen m ∷ []) t) ≡ t) → dones (seen m ∷ []) ≡ [] → Framed f (old x ws v k) (taken (says m o (new x ws k j)))
-    said f m o j {v = v} q h a w e = same c _ (byte 0) _ (rw (e, a, h, and-false v)) refl (awake q) w (λ z. refl)
+    writes : (f : Received) (m : Message) (o : Order) (j : Inbox) {x : Radio} {ws : List Tx} {v : Bool} {k : Option Config}
+        → Shape x ws none v k → runs? x ≡ false
+        → ((t : Tally) → afterOrder o (noted f (seen m ∷ []) t) ≡ t) → dones (seen m ∷ []) ≡ []
+        → Framed f (old x ws v k) (taken (writesFirst m o (new x ws k j)))
+    writes f m o j {v = v} q h a w e = same c _ (byte 0) _ (rw (e, a, h, and-false v)) refl (awake q) w (λ z. refl)
 
     -- an ERR moves none
     err-noted : (kind t code u : ℕ) (p : List ℕ) (y : Tally) → noted (command kind t p) (seen (err code u) ∷ []) y ≡ y
@@ -352,12 +371,12 @@ module _ (b : Board) (c : List Closed) where
     never true a d e = absurd (let z : _≡_ {A = ℕ} 0 1 = cc in omega arith)
     never false a d e = absurd (let z : _≡_ {A = ℕ} 0 1 = cc in omega arith)
 
-    no-tx : (s : State) (kind : ℕ) (p : List ℕ) → s .config ≡ none → eqb kind TX ≡ true → objection b s kind p ≡ none → ⊥
-    unfolding objection
+    no-tx : (s : State) (kind : ℕ) (p : List ℕ) → s .config ≡ none → eqb kind TX ≡ true → errorOf b s kind p ≡ none → ⊥
+    unfolding errorOf
     no-tx s kind p h e o = never (not (isCommand kind)) EUNKNOWN-CMD ENOTCONFIGURED (rw (h, e) at o)
 
     was-tx : (kind t : ℕ) (p : List ℕ) → eqb kind TX ≡ true → {x : Radio} {ws : List Tx} {v : Bool} {k : Option Config} → Shape x ws none v k → runs? x ≡ false
-        → objection b (new x ws k i) kind p ≡ none → Framed (command kind t p) (old x ws v k) (taken (onTx (txOf t p) x (new x ws k i)))
+        → errorOf b (new x ws k i) kind p ≡ none → Framed (command kind t p) (old x ws v k) (taken (onTx (txOf t p) x (new x ws k i)))
     was-tx kind t p y (is-free {k = k}) h o e =
         keeps-by [] (rw (e, y) (simp laws)) (begun-shape (listens k (get flags p)) t) refl (simp laws) (omega arith) (λ z. omega arith)
     was-tx kind t p y (is-listening {t = u} {ws = ws}) h o e =
@@ -368,11 +387,13 @@ module _ (b : Board) (c : List Closed) where
     was-tx kind t p y is-alone h o e = absurd (no-tx _ kind p refl y o)
     was-tx kind t p y is-configuring h o e = absurd (true≢false h)
 
-    was-set : (kind t : ℕ) (p : List ℕ) → eqb kind TX ≡ false → eqb kind SET-CONFIG ≡ true → {x : Radio} {ws : List Tx} {v : Bool} {k : Option Config} → Shape x ws none v k
-        → runs? x ≡ false → Framed (command kind t p) (old x ws v k) (taken (onSet (settingOf t p) x (new x ws k deaf)))
+    was-set : (kind t : ℕ) (p : List ℕ) → eqb kind TX ≡ false → eqb kind SET-CONFIG ≡ true
+        → {x : Radio} {ws : List Tx} {v : Bool} {k : Option Config} → Shape x ws none v k
+        → runs? x ≡ false → Framed (command kind t p) (old x ws v k) (taken (onSet (settingOf t p) x (new x ws k noReception)))
     was-set kind t p y z is-free h e = same c _ (byte 0) _ (rw (e, y, z) (simp laws)) refl is-configuring refl (λ u. refl)
     was-set kind t p y z (is-listening {t = u} {ws = ws}) h e =
-        keeps-by (was-reported u ∷ map was-reported (tagsOf ws)) (rw (e, y, z, no-err (tagsOf ws)) (simp laws)) is-configuring (simp laws) (simp laws) (omega (arith, length-map (tagsOf ws) was-reported)) (λ q. omega arith)
+        keeps-by (was-reported u ∷ map was-reported (tagsOf ws)) (rw (e, y, z, no-err (tagsOf ws)) (simp laws)) is-configuring
+        (simp laws) (simp laws) (omega (arith, length-map (tagsOf ws) was-reported)) (λ q. omega arith)
     was-set kind t p y z is-onAir h e = same c _ (byte 0) _ (rw (e, y, z)) refl is-onAir refl (λ u. refl)
     was-set kind t p y z is-orphan h e = same c _ (byte 0) _ (rw (e, y, z)) refl is-orphan refl (λ u. refl)
     was-set kind t p y z is-alone h e = same c _ (byte 0) _ (rw (e, y, z)) refl is-orphan refl (λ u. refl)
@@ -386,34 +407,34 @@ module _ (b : Board) (c : List Closed) where
     module _ (kind t : ℕ) (p : List ℕ) (y : eqb kind TX ≡ false) (z : eqb kind SET-CONFIG ≡ false)
         {x : Radio} {ws : List Tx} {v : Bool} {k : Option Config} (q : Shape x ws none v k) (h : runs? x ≡ false) where
       was-turned : (on : Bool) → Framed (command kind t p) (old x ws v k) (taken (turned on t (new x ws k i)))
-      was-turned on = said _ _ _ _ q h (λ u. rw (y, z) (unseen (free? x && changed on (i .receiving)) on u)) refl
+      was-turned on = writes _ _ _ _ q h (λ u. rw (y, z) (unseen (free? x && changed on (i .receiving)) on u)) refl
 
-      was-asked : (m : Message) → dones (seen m ∷ []) ≡ [] → Framed (command kind t p) (old x ws v k) (taken (says m nothing (new x ws k i)))
-      was-asked m w = said _ m nothing i q h (λ u. rw (y, z)) w
+      was-asked : (m : Message) → dones (seen m ∷ []) ≡ [] → Framed (command kind t p) (old x ws v k) (taken (writesFirst m nothing (new x ws k i)))
+      was-asked m w = writes _ m nothing i q h (λ u. rw (y, z)) w
 
       others : (u₁ u₂ u₃ : Bool) → Framed (command kind t p) (old x ws v k)
           (taken (cond u₁ (turned true t (new x ws k i)) (cond u₂ (turned false t (new x ws k i))
-          (cond u₃ (says (okInfo b t) nothing (new x ws k i)) (says (ok t) nothing (new x ws k i))))))
+          (cond u₃ (writesFirst (okInfo b t) nothing (new x ws k i)) (writesFirst (ok t) nothing (new x ws k i))))))
       others true u₂ u₃ = was-turned true
       others false true u₃ = was-turned false
       others false false true = was-asked (okInfo b t) refl
       others false false false = was-asked (ok t) refl
 
     carried : (kind t : ℕ) (p : List ℕ) (u w : Bool) → eqb kind TX ≡ u → eqb kind SET-CONFIG ≡ w
-        → {x : Radio} {ws : List Tx} {v : Bool} {k : Option Config} → Shape x ws none v k → runs? x ≡ false → objection b (new x ws k i) kind p ≡ none
+        → {x : Radio} {ws : List Tx} {v : Bool} {k : Option Config} → Shape x ws none v k → runs? x ≡ false → errorOf b (new x ws k i) kind p ≡ none
         → Framed (command kind t p) (old x ws v k) (taken (onCommand b kind t p (new x ws k i)))
     carried kind t p true w y z q h o = rw y (was-tx kind t p y q h o)
     carried kind t p false true y z q h o = rw (y, z) (was-set kind t p y z q h)
     carried kind t p false false y z q h o = rw (y, z) (others kind t p y z q h (eqb kind RX-START) (eqb kind RX-STOP) (eqb kind GET-INFO))
 
     answered : (kind t : ℕ) (p : List ℕ) (o : Option ℕ) {x : Radio} {ws : List Tx} {v : Bool} {k : Option Config} → Shape x ws none v k → runs? x ≡ false
-        → objection b (new x ws k i) kind p ≡ o → Framed (command kind t p) (old x ws v k) (taken (unless o b kind t p (new x ws k i)))
-    answered kind t p (some code) q h e = said _ _ nothing i q h (err-noted kind t code t p) refl
+        → errorOf b (new x ws k i) kind p ≡ o → Framed (command kind t p) (old x ws v k) (taken (unless o b kind t p (new x ws k i)))
+    answered kind t p (some code) q h e = writes _ _ nothing i q h (err-noted kind t code t p) refl
     answered kind t p none q h e = carried kind t p _ _ refl refl q h e
 
     kept-received : (f : Received) {x : Radio} {ws : List Tx} {v : Bool} {k : Option Config} → Shape x ws none v k → runs? x ≡ false
         → Framed f (old x ws v k) (taken (onReceived b f (new x ws k i)))
-    kept-received damaged q h = said damaged _ nothing i q h (λ t. refl) refl
+    kept-received damaged q h = writes damaged _ nothing i q h (λ t. refl) refl
     kept-received (command kind t p) q h = answered kind t p _ q h refl
 
   kept-taken : (m n : ℕ) (rs : List ℕ) (i : Inbox) {x : Radio} {ws : List Tx} {v : Bool} {k : Option Config} → Shape x ws none v k → runs? x ≡ false

@@ -17,30 +17,36 @@ use Rattle.scalar.specs.Bytes.{Each, IsByte, Bytes}
 use Rattle.scalar.specs.Scalars.{le, get}
 use Rattle.scalar.proofs.Bytes.{each-append, each-right, each-take, each-drop}
 use Rattle.buffer.specs.Lay.{lay}
-use Rattle.kind.specs.Kinds.{GET-INFO, SET-CONFIG, TX, RX, RX-START, RX-STOP, isCommand, EPARAM, ELENGTH, ENOTCONFIGURED, EMODULATION, EUNKNOWN-CMD, EBUSY, ERADIO, EFRAME, TRANSMITTED, CHANNEL-BUSY, CANCELLED, packetMax}
+use Rattle.kind.specs.Kinds.{GET-INFO, SET-CONFIG, TX, RX, RX-START, RX-STOP, isCommand, EPARAM, ELENGTH, ENOTCONFIGURED}
+use Rattle.kind.specs.Kinds.{EMODULATION, EUNKNOWN-CMD, EBUSY, ERADIO, EFRAME, TRANSMITTED, CHANNEL-BUSY, CANCELLED, packetMax}
 use Rattle.frame.specs.Body.{overhead, payloadOf}
 use Rattle.frame.specs.Reading.{openAnswer}
 use Rattle.frame.specs.declared.Opened.{Opened}
 use Rattle.frame.specs.declared.Opened.the-variants as O
 use Rattle.frame.proofs.Bytes.{decoded-bytes, opened-tag}
 use Rattle.modulation.specs.Lora.{loraSize, loraOf}
-use Rattle.modulation.specs.Fsk.{syncWordMax, fskSize, sync-word-len, fskOf}
+use Rattle.modulation.specs.Fsk.{syncWordMax, fskSize, «sync_word_len», fskOf}
 use Rattle.modulation.specs.declared.Fsk.{Fsk}
 use Rattle.modulation.specs.declared.Modulation.the-variants as M
-use Rattle.modulation.specs.Modulations.{LORA, FSK, modulation-id, configOf, syncWord}
+use Rattle.modulation.specs.Modulations.{LORA, FSK, «modulation_id», configOf, syncWord}
 use Rattle.modulation.proofs.Laws.{length-config, fixed-most, wordLen, config-in}
 use Rattle.info.proofs.Laws.{length-info}
 use Rattle.rx.specs.Rx.{rxBytes}
 use Rattle.answer.specs.Answers.{answerBytes, configuredBytes, txDoneMax, txDoneBytes}
 use Rattle.answer.specs.declared.Answer.{Answer}
 use Rattle.answer.specs.declared.Answer.the-variants as A
-use Rattle.board.specs.Board.{Board, ringMax, txMax, infoOf, uidsOf, bitmap, sx1262}
+use Rattle.board.specs.Board.{Board, ringMax, txMax, boardInfo, uidsOf, bitmap, sx1262}
 use Rattle.board.specs.Params.{paramsGood, fskGood, freqGood}
-use Rattle.device.specs.State.{Config, Setting, Tx, Radio, free, listening, onAir, orphan, configuring, Packet, Inbox, Air, State, link, air, inbox, state, withLink, withInbox, deaf, powerUp, held, tagsOf, open#, free?, stalled}
+use Rattle.device.specs.State.{Config, Setting, Tx, Radio, free, listening, onAir, orphan, configuring, Packet, Inbox, Air, State}
+use Rattle.device.specs.State.{link, air, inbox, state, withLink, withInbox, noReception, powerUp, held, tagsOf, open#, free?, stalled}
 use Rattle.device.specs.State.{Event, byte, tick, clear, busy, sent, configured, fault, packet, request, disconnect, Input, nothing}
-use Rattle.device.specs.Messages.{Message, wires, ok, okInfo, okConfigured, err, txDone, rx, cancelled, seen}
-use Rattle.device.specs.Frames.{Received, damaged, command, received, untagged, unconfigured, needsConfig, strange, configSized, sized, objection, good, settingOf, txOf}
-use Rattle.device.specs.Events.{Done, does, Out, begun, start, begin, next, afterTx, says, waitsFor, onTx, onSet, turned, onCommand, unless, onReceived, onRun, onByte, unlessStalled, onClear, onBusy, onSent, onConfigured, inForce, heard, onFault, cut, kept, dropsMax, listens, onPacket, onRequest, ended, endSession, ticksMax, onTick, onDisconnect, onEvent, roomMin, unlessRoom, step}
+use Rattle.device.specs.Messages.{Message, messagesBytes, ok, okInfo, okConfigured, err, txDone, rx, cancelled, seen}
+use Rattle.device.specs.Frames.{Received, damaged, command, received, untagged, unconfigured, needsConfig}
+use Rattle.device.specs.Frames.{otherModulation, configSized, sized, errorOf, good, settingOf, txOf}
+use Rattle.device.specs.Events.{Done, does, Out, begun, start, begin, next, afterTx, writesFirst, waitsFor, onTx, onSet, turned, onCommand, unless}
+use Rattle.device.specs.Events.{onReceived}
+use Rattle.device.specs.Events.{onRun, onByte, unlessStalled, onClear, onBusy, onSent, onConfigured, inForce, ifSession, onFault, cut, kept, dropsMax}
+use Rattle.device.specs.Events.{listens, onPacket, onRequest, ended, endSession, ticksMax, onTick, onDisconnect, onEvent, roomMin, unlessRoom, step}
 use Rattle.device.specs.Tally.{wrote}
 use Rattle.device.specs.Ranges.{PacketIn, EventIn, InputIn, BoardIn}
 use Rattle.device.proofs.Laws.{tags-more}
@@ -67,7 +73,7 @@ RadioIn (configuring c) = SettingIn c
 -- the tags are those of the open TX
 pub record AirIn (a : Air) : Type 0 where
   pub tags : Each TagIn (held (a .radio) ++ tagsOf (a .waiting))
-  pub few : open# a ≤ txMax
+  pub bounded : open# a ≤ txMax
   pub radio : RadioIn (a .radio)
   pub pending : PendingIn (a .pending)
 
@@ -85,15 +91,15 @@ pub record StateIn (s : State) : Type 0 where
   pub air : AirIn (s .air)
   pub inbox : InboxIn (s .inbox)
 
-deaf-in : InboxIn deaf
-deaf-in = record { ring = tt; drops = omega arith }
+no-reception-in : InboxIn noReception
+no-reception-in = record { ring = tt; drops = omega arith }
 
 -- no TX open
 idle-in : (r : Radio) → held r ≡ [] → RadioIn r → AirIn (air r [] none)
-idle-in r e x = record { tags = rw e tt; few = rw e (omega arith); radio = x; pending = tt }
+idle-in r e x = record { tags = rw e tt; bounded = rw e (omega arith); radio = x; pending = tt }
 
 pub at-power-up : StateIn powerUp
-at-power-up = record { run = tt; air = idle-in free refl tt; inbox = deaf-in }
+at-power-up = record { run = tt; air = idle-in free refl tt; inbox = no-reception-in }
 
 -- ---- how long messages are
 
@@ -122,14 +128,14 @@ longest m = before (m .answer) + length (m .bytes)
 -- messages that can be sent, in n bytes at most
 record Wired (n : ℕ) (ms : List Message) : Type 0 where
   sendable : AllSendable ms
-  size : length (wires ms) ≤ n
+  size : length (messagesBytes ms) ≤ n
 
 silence : (n : ℕ) → Wired n []
-unfolding wires
+unfolding messagesBytes
 silence n = record { sendable = tt; size = omega arith }
 
 one : (n : ℕ) (m : Message) → Sendable m → longest m + 7 + (longest m + 5) / 254 ≤ n → Wired n (m ∷ [])
-unfolding wires
+unfolding messagesBytes
 one n m s h = record { sendable = (s, tt); size = rw length-append (omega (arith, length-answer (m .answer) (m .bytes), length-wire m)) }
 
 both : (n : ℕ) {a b : ℕ} {xs ys : List Message} → Wired a xs → Wired b ys → a + b ≤ n → Wired n (xs ++ ys)
@@ -150,7 +156,7 @@ cancels : (ts : List ℕ) → Each TagIn ts → Wired (12 * length ts) (cancelle
 cancels [] h = silence 0
 cancels (t ∷ ts) h = both _ (cancel t (h .0)) (cancels ts (h .1)) (omega arith)
 
-hears : (session : Bool) (t : ℕ) → t < 65536 → Wired 9 (heard session (err ERADIO t))
+hears : (session : Bool) (t : ℕ) → t < 65536 → Wired 9 (ifSession session (err ERADIO t))
 hears true t h = one 9 (err ERADIO t) (err-sent ERADIO (omega arith) t h) (omega arith)
 hears false t h = silence 9
 
@@ -159,8 +165,8 @@ hears false t h = silence 9
 pub record Fits (s : State) (ms : List Message) : Type 0 where
   pub next : StateIn s
   pub sendable : AllSendable ms
-  pub most : length (wires ms) ≤ 283
-  pub others : wrote RX (map seen ms) ≡ false → length (wires ms) ≤ 201
+  pub most : length (messagesBytes ms) ≤ 283
+  pub others : wrote RX (map seen ms) ≡ false → length (messagesBytes ms) ≤ 201
 
 abbrev pub Kept : Out → Type 0
 Kept o = Fits (o .next) (o .written)
@@ -177,14 +183,14 @@ still : {s : State} → StateIn s → Fits s []
 still h = keep h (silence 0) (omega arith)
 
 -- one message is
-said : (m : Message) → Sendable m → longest m ≤ 85 → {s : State} → StateIn s → Fits s (m ∷ [])
-said m w l h = keep h (one 201 m w (omega arith)) (omega arith)
+writes : (m : Message) → Sendable m → longest m ≤ 85 → {s : State} → StateIn s → Fits s (m ∷ [])
+writes m w l h = keep h (one 201 m w (omega arith)) (omega arith)
 
 -- ---- the radio
 
 -- the same TX open
 moved : (q r : Radio) {ws : List Tx} {p o : Option Setting} → held q ≡ held r → RadioIn r → PendingIn o → AirIn (air q ws p) → AirIn (air r ws o)
-moved q r e x y i = record { tags = rw e at (i .tags); few = rw e at (i .few); radio = x; pending = y }
+moved q r e x y i = record { tags = rw e at (i .tags); bounded = rw e at (i .bounded); radio = x; pending = y }
 
 -- one TX more waits
 joined : (x : Tx) → TagIn (x .tag) → (r : Radio) {ws : List Tx} {p : Option Setting} → open# (air r ws p) < txMax → AirIn (air r ws p)
@@ -194,15 +200,15 @@ joined x t r {ws} l i =
     ap (λ (ts : List ℕ). held r ++ ts) (tags-more ws x) ∙ sym (append-assoc (held r) (tagsOf ws) (x .tag ∷ [])) in
     record {
       tags = rw e (each-append TagIn (held r ++ tagsOf ws) (x .tag ∷ []) (i .tags) (t, tt));
-      few = rw (e, length-append (held r ++ tagsOf ws) (x .tag ∷ [])) (omega arith);
+      bounded = rw (e, length-append (held r ++ tagsOf ws) (x .tag ∷ [])) (omega arith);
       radio = i .radio;
       pending = i .pending;
     }
 
 begun-in : (x : Tx) (ws : List Tx) → Each TagIn (tagsOf (x ∷ ws)) → length (tagsOf (x ∷ ws)) ≤ txMax → (first : Bool)
     → AirIn (air (begun first (x .tag)) ws none)
-begun-in x ws t l true = record { tags = t; few = l; radio = tt; pending = tt }
-begun-in x ws t l false = record { tags = t; few = l; radio = tt; pending = tt }
+begun-in x ws t l true = record { tags = t; bounded = l; radio = tt; pending = tt }
+begun-in x ws t l false = record { tags = t; bounded = l; radio = tt; pending = tt }
 
 ended-in : (r : Radio) → RadioIn r → AirIn (air (ended r) [] none)
 ended-in free x = idle-in free refl tt
@@ -212,14 +218,14 @@ ended-in orphan x = idle-in orphan refl tt
 ended-in (configuring c) x = idle-in (configuring c) refl x
 
 end-kept : (r : Radio) → RadioIn r → Does (endSession r)
-end-kept r x = still record { run = tt; air = ended-in r x; inbox = deaf-in }
+end-kept r x = still record { run = tt; air = ended-in r x; inbox = no-reception-in }
 
 -- ---- packets
 
 cut-in : (p : Packet) → PacketIn p → HeldIn (cut p)
 cut-in p k =
     record {
-      values = record { rssi = k .rssi; snr = k .snr; freq-err = k .freq-err; time = k .time };
+      values = record { rssi = k .rssi; snr = k .snr; «freq_err» = k .«freq_err»; «timestamp_us» = k .«timestamp_us» };
       short = omega (arith, length-take packetMax (p .bytes));
     }
 
@@ -249,7 +255,7 @@ module _ (s : State) (h : StateIn s) where
 
   start-kept : (x : Tx) (ws : List Tx) → Each TagIn (tagsOf (x ∷ ws)) → length (tagsOf (x ∷ ws)) ≤ txMax → {n : ℕ} {ms : List Message}
       → Wired n ms → n ≤ 201 → Does (start x ws ms s)
-  start-kept x ws t few w l = keep (with-air _ (begun-in x ws t few (listens (s .config) (x .flags)))) w l
+  start-kept x ws t bounded w l = keep (with-air _ (begun-in x ws t bounded (listens (s .config) (x .flags)))) w l
 
   begin-kept : (c : Setting) → SettingIn c → {n : ℕ} {ms : List Message} → Wired n ms → n ≤ 201 → Does (begin c ms s)
   begin-kept c k w l = keep (with-air _ (idle-in (configuring c) refl k)) w l
@@ -279,7 +285,7 @@ module _ (s : State) (h : StateIn s) where
 
   busy-kept : (r : Radio) → With r → Kept (onBusy r s)
   busy-kept free i = still h
-  busy-kept (listening t) i = after-kept (done CHANNEL-BUSY 0 t (omega arith) (omega arith) (i .tags .0)) (omega (arith, i .few))
+  busy-kept (listening t) i = after-kept (done CHANNEL-BUSY 0 t (omega arith) (omega arith) (i .tags .0)) (omega (arith, i .bounded))
   busy-kept (onAir t) i = still h
   busy-kept orphan i = still h
   busy-kept (configuring c) i = still h
@@ -287,14 +293,14 @@ module _ (s : State) (h : StateIn s) where
   sent-kept : (airtime : ℕ) → airtime < 0x100000000 → (r : Radio) → With r → Kept (onSent airtime r s)
   sent-kept airtime a free i = still h
   sent-kept airtime a (listening t) i = still h
-  sent-kept airtime a (onAir t) i = after-kept (done TRANSMITTED airtime t (omega arith) a (i .tags .0)) (omega (arith, i .few))
-  sent-kept airtime a orphan i = after-kept (silence 0) (omega (arith, i .few))
+  sent-kept airtime a (onAir t) i = after-kept (done TRANSMITTED airtime t (omega arith) a (i .tags .0)) (omega (arith, i .bounded))
+  sent-kept airtime a orphan i = after-kept (silence 0) (omega (arith, i .bounded))
   sent-kept airtime a (configuring c) i = still h
 
   in-force-kept : (session : Bool) (c : Setting) → With (configuring c) → Does (inForce session c s)
   in-force-kept true c i =
       let k = i .radio .config in
-      said (okConfigured c) (configured-sent c (i .radio .tag) k) (omega (arith, k .word, k .short))
+      writes (okConfigured c) (configured-sent c (i .radio .tag) k) (omega (arith, k .word, k .short))
       (with-air _ (moved (configuring c) free refl tt (i .pending) i))
   in-force-kept false c i = still (with-air _ (moved (configuring c) free refl tt (i .pending) i))
 
@@ -307,14 +313,14 @@ module _ (s : State) (h : StateIn s) where
 
   -- an ERR, and the TX with the radio is cancelled
   cancelled-kept : (t : ℕ) → TagIn t → length (t ∷ tagsOf (s .air .waiting)) ≤ txMax
-      → Does (afterTx (heard (s .link .session) (err ERADIO 0) ++ (txDone CANCELLED 0 t ∷ [])) s)
+      → Does (afterTx (ifSession (s .link .session) (err ERADIO 0) ++ (txDone CANCELLED 0 t ∷ [])) s)
   cancelled-kept t k l = after-kept (both 21 (hears (s .link .session) 0 (omega arith)) (cancel t k) (omega arith)) (omega arith)
 
   fault-kept : (r : Radio) → With r → Does (onFault r s)
-  fault-kept free i = after-kept (hears (s .link .session) 0 (omega arith)) (omega (arith, i .few))
-  fault-kept (listening t) i = cancelled-kept t (i .tags .0) (i .few)
-  fault-kept (onAir t) i = cancelled-kept t (i .tags .0) (i .few)
-  fault-kept orphan i = after-kept (hears (s .link .session) 0 (omega arith)) (omega (arith, i .few))
+  fault-kept free i = after-kept (hears (s .link .session) 0 (omega arith)) (omega (arith, i .bounded))
+  fault-kept (listening t) i = cancelled-kept t (i .tags .0) (i .bounded)
+  fault-kept (onAir t) i = cancelled-kept t (i .tags .0) (i .bounded)
+  fault-kept orphan i = after-kept (hears (s .link .session) 0 (omega arith)) (omega (arith, i .bounded))
   fault-kept (configuring c) i =
       keep (with-air _ (moved (configuring c) free refl tt (i .pending) i)) (hears (s .link .session) (c .tag) (i .radio .tag .1)) (omega arith)
 
@@ -348,18 +354,18 @@ module _ (s : State) (h : StateIn s) where
   disconnect-kept true = end-kept (s .air .radio) (h .air .radio)
   disconnect-kept false = still (with-run tt)
 
-  -- ---- a command without objection
+  -- ---- a command without an error
 
   set-kept : (c : Setting) → SettingIn c → (r : Radio) → With r → Does (onSet c r s)
-  set-kept c k free i = begin-kept c k (cancels (tagsOf (s .air .waiting)) (i .tags)) (omega (arith, i .few))
-  set-kept c k (listening t) i = begin-kept c k (cancels (t ∷ tagsOf (s .air .waiting)) (i .tags)) (omega (arith, i .few))
+  set-kept c k free i = begin-kept c k (cancels (tagsOf (s .air .waiting)) (i .tags)) (omega (arith, i .bounded))
+  set-kept c k (listening t) i = begin-kept c k (cancels (t ∷ tagsOf (s .air .waiting)) (i .tags)) (omega (arith, i .bounded))
   set-kept c k (onAir t) i = still (with-air _ (moved (onAir t) (onAir t) refl tt k i))
   set-kept c k orphan i = still (with-air _ (moved orphan orphan refl tt k i))
-  set-kept c k (configuring d) i = begin-kept c k (cancels (tagsOf (s .air .waiting)) (i .tags)) (omega (arith, i .few))
+  set-kept c k (configuring d) i = begin-kept c k (cancels (tagsOf (s .air .waiting)) (i .tags)) (omega (arith, i .bounded))
 
   module _ (x : Tx) (k : TagIn (x .tag)) where
     waits-kept : (r : Radio) → With r → open# (air r (s .air .waiting) (s .air .pending)) < txMax → Does (waitsFor x r s)
-    waits-kept r i l = said (ok (x .tag)) (ok-sent (x .tag) k) (omega arith) (with-air _ (joined x k r l i))
+    waits-kept r i l = writes (ok (x .tag)) (ok-sent (x .tag) k) (omega arith) (with-air _ (joined x k r l i))
 
     tx-kept : (r : Radio) → With r → open# (air r (s .air .waiting) (s .air .pending)) < txMax → Does (onTx x r s)
     tx-kept free i l = start-kept x (s .air .waiting) (k, i .tags) l (one 7 (ok (x .tag)) (ok-sent (x .tag) k) (omega arith)) (omega arith)
@@ -369,7 +375,7 @@ module _ (s : State) (h : StateIn s) where
     tx-kept (configuring c) i l = waits-kept (configuring c) i l
 
   turned-kept : (on : Bool) (t : ℕ) → TagIn t → Does (turned on t s)
-  turned-kept on t k = said (ok t) (ok-sent t k) (omega arith) (with-inbox (record { ring = h .inbox .ring; drops = h .inbox .drops }))
+  turned-kept on t k = writes (ok t) (ok-sent t k) (omega arith) (with-inbox (record { ring = h .inbox .ring; drops = h .inbox .drops }))
 
 -- ---- what steps 1 to 7 tell
 
@@ -382,29 +388,29 @@ fsk-short : (b : Board) (m : Fsk) → fskGood b m ≡ true → m .«sync_word_le
 unfolding fskGood
 fsk-short b m g = leb-true (m .«sync_word_len») syncWordMax (and-right (freqGood b (m .«freq_hz»)) (leb (m .«sync_word_len») syncWordMax) g)
 
-word-in : (b : Board) (p : List ℕ) → strange p ≡ false → configSized p ≡ true → paramsGood b (configOf p) ≡ true
+word-in : (b : Board) (p : List ℕ) → otherModulation p ≡ false → configSized p ≡ true → paramsGood b (configOf p) ≡ true
     → (length (syncWord p) ≡ wordLen (configOf p)) × (wordLen (configOf p) ≤ syncWordMax)
 unfolding syncWord configOf paramsGood fskOf
 word-in b [] s z g = absurd (true≢false (sym z))
-word-in b (x ∷ bs) s z g = go (eqb (get modulation-id (x ∷ bs)) LORA) refl (eqb (get modulation-id (x ∷ bs)) FSK) refl s z g
+word-in b (x ∷ bs) s z g = go (eqb (get «modulation_id» (x ∷ bs)) LORA) refl (eqb (get «modulation_id» (x ∷ bs)) FSK) refl s z g
   where
-    go : (lora : Bool) → eqb (get modulation-id (x ∷ bs)) LORA ≡ lora → (fsk : Bool) → eqb (get modulation-id (x ∷ bs)) FSK ≡ fsk
+    go : (lora : Bool) → eqb (get «modulation_id» (x ∷ bs)) LORA ≡ lora → (fsk : Bool) → eqb (get «modulation_id» (x ∷ bs)) FSK ≡ fsk
         → not (lora || fsk) ≡ false
-        → cond lora (eqb (length bs) loraSize) (leb fskSize (length bs) && eqb (length bs) (fskSize + get sync-word-len bs)) ≡ true
+        → cond lora (eqb (length bs) loraSize) (leb fskSize (length bs) && eqb (length bs) (fskSize + get «sync_word_len» bs)) ≡ true
         → paramsGood b (cond lora (M.Lora (loraOf bs)) (M.Fsk (fskOf bs))) ≡ true
-        → (length (cond fsk (take (get sync-word-len bs) (drop fskSize bs)) []) ≡ wordLen (cond lora (M.Lora (loraOf bs)) (M.Fsk (fskOf bs))))
+        → (length (cond fsk (take (get «sync_word_len» bs) (drop fskSize bs)) []) ≡ wordLen (cond lora (M.Lora (loraOf bs)) (M.Fsk (fskOf bs))))
         × (wordLen (cond lora (M.Lora (loraOf bs)) (M.Fsk (fskOf bs))) ≤ syncWordMax)
-    go true d true e s z g = absurd (omega (arith, eqb-true (get modulation-id (x ∷ bs)) LORA d, eqb-true (get modulation-id (x ∷ bs)) FSK e))
+    go true d true e s z g = absurd (omega (arith, eqb-true (get «modulation_id» (x ∷ bs)) LORA d, eqb-true (get «modulation_id» (x ∷ bs)) FSK e))
     go true d false e s z g = (refl, zero-le)
     go false d true e s z g =
-        let n = eqb-true (length bs) (fskSize + get sync-word-len bs) (and-right (leb fskSize (length bs)) _ z) in
-        (omega (arith, length-take (get sync-word-len bs) (drop fskSize bs), length-drop fskSize bs), fsk-short b (fskOf bs) g)
+        let n = eqb-true (length bs) (fskSize + get «sync_word_len» bs) (and-right (leb fskSize (length bs)) _ z) in
+        (omega (arith, length-take (get «sync_word_len» bs) (drop fskSize bs), length-drop fskSize bs), fsk-short b (fskOf bs) g)
     go false d false e s z g = absurd (true≢false s)
 
 module _ (b : Board) (s : State) (kind : ℕ) (p : List ℕ) where
   -- of a command that no step objects to: what was tested
   record Passed : Type 0 where
-    known : (eqb kind SET-CONFIG && strange p) ≡ false
+    known : (eqb kind SET-CONFIG && otherModulation p) ≡ false
     size : sized kind p ≡ true
     params : good b kind p ≡ true
     room : (eqb kind TX && leb txMax (open# (s .air))) ≡ false
@@ -418,12 +424,12 @@ module _ (b : Board) (s : State) (kind : ℕ) (p : List ℕ) where
   test true code o l h = l
   test false code o l h = h refl
 
-  told : Told (objection b s kind p)
-  unfolding objection
+  told : Told (errorOf b s kind p)
+  unfolding errorOf
   told =
       test (not (isCommand kind)) EUNKNOWN-CMD _ (omega arith) (λ a₂.
       test (unconfigured (s .config) && needsConfig kind) ENOTCONFIGURED _ (omega arith) (λ a₃.
-      test (eqb kind SET-CONFIG && strange p) EMODULATION _ (omega arith) (λ a₄.
+      test (eqb kind SET-CONFIG && otherModulation p) EMODULATION _ (omega arith) (λ a₄.
       test (not (sized kind p)) ELENGTH _ (omega arith) (λ a₅.
       test (not (good b kind p)) EPARAM _ (omega arith) (λ a₆.
       test (eqb kind TX && leb txMax (open# (s .air))) EBUSY none (omega arith) (λ a₇.
@@ -466,26 +472,26 @@ module _ (b : Board) (board : BoardIn b) (s : State) (h : StateIn s) where
       where
         go : (tx : Bool) → eqb kind TX ≡ tx → (set : Bool) → eqb kind SET-CONFIG ≡ set → (rx-start rx-stop get-info : Bool)
             → Does (cond tx (onTx (txOf t p) (s .air .radio) s)
-            (cond set (onSet (settingOf t p) (s .air .radio) (withInbox deaf s))
+            (cond set (onSet (settingOf t p) (s .air .radio) (withInbox noReception s))
             (cond rx-start (turned true t s)
             (cond rx-stop (turned false t s)
-            (cond get-info (says (okInfo b t) nothing s)
-            (says (ok t) nothing s))))))
+            (cond get-info (writesFirst (okInfo b t) nothing s)
+            (writesFirst (ok t) nothing s))))))
         go true x set y c d f = tx-kept s h (txOf t p) k (s .air .radio) (h .air) (tx-fits b s kind p e x)
         go false x true y c d f =
-            set-kept (withInbox deaf s) (with-inbox s h deaf-in) (settingOf t p) (set-in b s kind p e y t k bytes) (s .air .radio) (h .air)
+            set-kept (withInbox noReception s) (with-inbox s h no-reception-in) (settingOf t p) (set-in b s kind p e y t k bytes) (s .air .radio) (h .air)
         go false x false y true d f = turned-kept s h true t k
         go false x false y false true f = turned-kept s h false t k
-        go false x false y false false true = said (okInfo b t) (info-sent b board t k) (omega (arith, uids-short b board)) h
-        go false x false y false false false = said (ok t) (ok-sent t k) (omega arith) h
+        go false x false y false false true = writes (okInfo b t) (info-sent b board t k) (omega (arith, uids-short b board)) h
+        go false x false y false false false = writes (ok t) (ok-sent t k) (omega arith) h
 
     unless-kept : (o : Option ℕ) → Told b s kind p o → Does (unless o b kind t p s)
-    unless-kept (some code) c = said (err code t) (err-sent code c t (k .1)) (omega arith) h
+    unless-kept (some code) c = writes (err code t) (err-sent code c t (k .1)) (omega arith) h
     unless-kept none c = command-kept c
 
   received-kept : (r : Received) → ReceivedIn r → Does (onReceived b r s)
-  received-kept damaged k = said (err EFRAME 0) (err-sent EFRAME (omega arith) 0 (omega arith)) (omega arith) h
-  received-kept (command kind t p) k = unless-kept kind t p (k .0) (k .1) (objection b s kind p) (told b s kind p)
+  received-kept damaged k = writes (err EFRAME 0) (err-sent EFRAME (omega arith) 0 (omega arith)) (omega arith) h
+  received-kept (command kind t p) k = unless-kept kind t p (k .0) (k .1) (errorOf b s kind p) (told b s kind p)
 
 module _ (b : Board) (board : BoardIn b) (s : State) (h : StateIn s) where
   run-kept : (run : List ℕ) → Bytes run → Does (onRun b run s)
@@ -525,7 +531,7 @@ keeps b board s h i l = room-kept b board s h (ltb (i .room) roomMin) (i .event)
 -- ---- the board that 01 names
 
 pub sx1262-in : BoardIn sx1262
-unfolding sx1262 infoOf bitmap
+unfolding sx1262 boardInfo bitmap
 sx1262-in =
     record {
       info =

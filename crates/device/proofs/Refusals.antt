@@ -10,14 +10,15 @@ use native.Mathlib.Omega.{arith}
 use native.Mathlib.Nat.{not-suc-le-zero}
 use lib.Dec.{ltb}
 use lib.ListN.{length}
-use Rattle.numbers.specs.Numbers.{TAKEN, ROOM, STALL, PLACE}
+use Rattle.status.specs.Numbers.{TAKEN, ROOM, STALL, PLACE}
 use Rattle.kind.specs.Kinds.{EFRAME}
 use Rattle.board.specs.Board.{Board}
 use Rattle.device.specs.State.{Radio, free, listening, onAir, orphan, configuring, Packet, State, link, withLink}
 use Rattle.device.specs.State.{Event, byte, tick, clear, busy, sent, configured, fault, packet, request, disconnect, Input, nothing}
 use Rattle.device.specs.Frames.{damaged}
 use Rattle.device.specs.Reading.{brings}
-use Rattle.device.specs.Events.{Done, does, Out, taken, refused, onReceived, onRun, unlessStalled, onClear, onBusy, onSent, onConfigured, onPacket, onEvent, unlessRoom, step}
+use Rattle.device.specs.Events.{Done, does, Out, taken, refused, onReceived, onRun, unlessStalled, onClear}
+use Rattle.device.specs.Events.{onBusy, onSent, onConfigured, onPacket, onEvent, unlessRoom, step}
 use Rattle.device.specs.Due.{isFree, isListening, isOnAir, isConfiguring, reconfiguring, fits, byte?, errDue}
 use Rattle.device.specs.Demands.{Exact, Demand1, Demand2}
 use Rattle.device.proofs.Laws.{run-brings, same-free, same-stalled}
@@ -27,10 +28,10 @@ use Rattle.device.proofs.Laws.{run-brings, same-free, same-stalled}
 -- one with the number TAKEN, and a refusal: for any kind of answer
 module _ {A : Type 0} (number : A → ℕ) (refuse : ℕ → A) where
   pub exact-taken : (x : A) → number x ≡ TAKEN → Exact number refuse TAKEN x
-  exact-taken x e = record { tells = e; stays = λ k f. absurd (omega arith) }
+  exact-taken x e = record { returns = e; stays = λ k f. absurd (omega arith) }
 
   pub exact-refused : (n : ℕ) → number (refuse n) ≡ n → Exact number refuse n (refuse n)
-  exact-refused n e = record { tells = e; stays = λ k f. ap refuse f }
+  exact-refused n e = record { returns = e; stays = λ k f. ap refuse f }
 
 -- of the device's
 abbrev Told : ℕ → State → Out → Type 0

@@ -21,7 +21,7 @@ use Rattle.form.specs.Forms.{exactly}
 use Rattle.answer.specs.Answers.{answerForm, answerKind, answerName}
 use Rattle.answer.specs.Ranges.{AnswerIn}
 use Rattle.answer.proofs.Laws.{answer-small}
-use Rattle.device.specs.Messages.{Message, payload, wire, wires, Frame, seen}
+use Rattle.device.specs.Messages.{Message, payload, messageBytes, messagesBytes, Frame, seen}
 use Rattle.device.specs.Reading.{found, frameIn, framesIn, frames}
 
 -- what the writer of answers takes: values of their types, a tag that the message may have, and a payload of the answer's form
@@ -54,8 +54,8 @@ module _ (m : Message) (h : Sendable m) where
   run-short = omega (arith, body-sized .1, length-bound (bodyOf m))
 
 -- its frame is a run and a zero, and no longer than the worst case
-pub length-wire : (m : Message) → length (wire m) ≤ worst (length (payload m) + overhead) + 1
-unfolding wire
+pub length-wire : (m : Message) → length (messageBytes m) ≤ worst (length (payload m) + overhead) + 1
+unfolding messageBytes
 length-wire m = length-frame (answerKind (m .answer)) (m .tag) (payload m)
 
 -- the run opens
@@ -66,25 +66,26 @@ frame-in m h =
     (frame-opens (answerKind (m .answer)) (m .tag) (payload m) (replicate encodedMax 0) (h .small) (payload-short m h) (run-short m h) .0)
     (ap payloadOf (round-trip (bodyOf m)) ∙ payload-body (answerKind (m .answer)) (m .tag) (payload m))
 
-read-wire : (m : Message) → Sendable m → (bs : List ℕ) → frames (wire m ++ bs) ≡ seen m ∷ frames bs
-unfolding frames framesIn wire
+read-wire : (m : Message) → Sendable m → (bs : List ℕ) → frames (messageBytes m ++ bs) ≡ seen m ∷ frames bs
+unfolding frames framesIn messageBytes
 read-wire m h bs = ap framesIn (runs-frame (bodyOf m) bs) ∙ ap (λ (fs : List Frame). fs ++ frames bs) (frame-in m h)
 
 -- ---- one after another
 
-pub wires-append : (xs ys : List Message) → wires (xs ++ ys) ≡ wires xs ++ wires ys
-unfolding wires
+pub wires-append : (xs ys : List Message) → messagesBytes (xs ++ ys) ≡ messagesBytes xs ++ messagesBytes ys
+unfolding messagesBytes
 wires-append [] ys = refl
-wires-append (x ∷ xs) ys = ap (λ (bs : List ℕ). wire x ++ bs) (wires-append xs ys) ∙ sym (append-assoc (wire x) (wires xs) (wires ys))
+wires-append (x ∷ xs) ys =
+    ap (λ (bs : List ℕ). messageBytes x ++ bs) (wires-append xs ys) ∙ sym (append-assoc (messageBytes x) (messagesBytes xs) (messagesBytes ys))
 
-pub read-wires : (ms : List Message) → AllSendable ms → (bs : List ℕ) → frames (wires ms ++ bs) ≡ map seen ms ++ frames bs
-unfolding wires
+pub read-wires : (ms : List Message) → AllSendable ms → (bs : List ℕ) → frames (messagesBytes ms ++ bs) ≡ map seen ms ++ frames bs
+unfolding messagesBytes
 read-wires [] h bs = refl
 read-wires (m ∷ ms) h bs =
-    ap frames (append-assoc (wire m) (wires ms) bs)
-    ∙ read-wire m (h .0) (wires ms ++ bs)
+    ap frames (append-assoc (messageBytes m) (messagesBytes ms) bs)
+    ∙ read-wire m (h .0) (messagesBytes ms ++ bs)
     ∙ ap (λ (fs : List Frame). seen m ∷ fs) (read-wires ms (h .1) bs)
 
-pub read-all : (ms : List Message) → AllSendable ms → frames (wires ms) ≡ map seen ms
+pub read-all : (ms : List Message) → AllSendable ms → frames (messagesBytes ms) ≡ map seen ms
 unfolding frames framesIn runs
-read-all ms h = ap frames (sym (append-nil (wires ms))) ∙ read-wires ms h [] ∙ append-nil (map seen ms)
+read-all ms h = ap frames (sym (append-nil (messagesBytes ms))) ∙ read-wires ms h [] ∙ append-nil (map seen ms)

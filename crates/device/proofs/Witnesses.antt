@@ -4,7 +4,7 @@
 -- Assumes nothing.
 use Prim.Native.Nat.{ℕ, zero, suc}
 use mathlib.Core.Path.{_≡_, refl}
-use mathlib.Core.Bool.{true, false}
+use mathlib.Core.Bool.{Bool, true, false}
 use mathlib.Core.List.{List, [], _∷_, _++_, map}
 use mathlib.Core.Option.{none, some}
 use lib.Dec.{leb}
@@ -14,16 +14,18 @@ use Rattle.cobs.specs.Encoding.{encoded}
 use Rattle.frame.specs.Body.{body}
 use Rattle.kind.specs.Kinds.{PING, GET-INFO, SET-CONFIG, TX, RX-START, RX-STOP, ENOTCONFIGURED, ERADIO, EFRAME}
 use Rattle.answer.specs.declared.Answer.the-variants as A
-use Rattle.board.specs.Board.{sx1262, infoOf, uidsOf}
-use Rattle.device.specs.State.{Config, Packet, state, link, air, inbox, free, Event, byte, tick, busy, sent, configured, fault, packet, request, disconnect, Input, Order, nothing, standby, configure, transmit}
-use Rattle.device.specs.Messages.{Message, message, wires}
+use Rattle.board.specs.Board.{sx1262, boardInfo, uidsOf}
+use Rattle.device.specs.State.{Config, Packet, state, link, air, inbox, free, Event, byte, tick, busy, sent, configured}
+use Rattle.device.specs.State.{fault, packet, request, disconnect, Input, Order, nothing, standby, configure, transmit}
+use Rattle.device.specs.Messages.{Message, message, messagesBytes}
 use Rattle.device.specs.Events.{Reply}
 use Rattle.device.specs.Reading.{frames}
 use Rattle.device.specs.Tally.{tally, Entry, entry, withRadio, waits, dones, newlyReported}
 use Rattle.device.specs.Observer.{observer, settingIn}
 use Rattle.device.specs.Due.{numberDue, errDue, doneDue, messagesDue, orderDue}
-use Rattle.device.specs.Demands.{System, History, defined, onward, after, begins, history, answer, Closed, was-reported, was-dropped, closed, withRadioOf, waitingOf, dropCounts}
-use Rattle.device.specs.Scripts.{lent, bytesIn, sends, lora, ready}
+use Rattle.device.specs.Demands.{System, History, defined, onward, after, begins, history, answer, Closed}
+use Rattle.device.specs.Demands.{was-reported, was-dropped, closed, withRadioOf, waitingOf, dropCounts}
+use Rattle.device.specs.Scripts.{lent, bytesIn, sentAs, lora, ready}
 use Rattle.device.proofs.Computing.{computes}
 
 -- the defined device with the board of P C.2.2
@@ -46,7 +48,7 @@ setUp =
       device = state (some config) (link true 0 []) (air free [] none) (inbox false [] 0);
       tally = tally [] true 0 false [];
       observer = observer (some config) (air free [] none) (inbox false [] 0);
-      bytes = wires (message 3 (A.Configured (record { result = 0; owner = 1; current = config .modulation })) [] ∷ []);
+      bytes = messagesBytes (message 3 (A.Configured (record { result = 0; owner = 1; current = config .modulation })) [] ∷ []);
     }
 
 pub is-set-up : history device ready ≡ setUp
@@ -72,11 +74,15 @@ answered h e =
       order = orderDue sx1262 (r .number) e (h .tally) (h .observer);
     }
 
--- After these events more: the number is n, the bytes and their count are those of these messages, and this is the order; and so is what is due.
+-- The number is n, the bytes and their count are those of these messages, and this is the order; and so is what is due.
+abbrev given : ℕ → List Message → Order → Answered
+given n ms o =
+    let bs = messagesBytes ms in
+    record { answers = record { number = n; count = length bs; bytes = bs; order = o }; number = n; messages = ms; order = o }
+
+-- after these events more
 abbrev Answers : History device → List Input → Event → ℕ → List Message → Order → Type 0
-Answers h is e n ms o =
-    answered (after device h is) e
-    ≡ record { answers = record { number = n; count = length (wires ms); bytes = wires ms; order = o }; number = n; messages = ms; order = o }
+Answers h is e n ms o = answered (after device h is) e ≡ given n ms o
 
 -- it is taken, or refused
 abbrev Gives : History device → List Input → Event → List Message → Order → Type 0
@@ -114,14 +120,14 @@ abbrev Places : History device → List Input → List Closed → List Entry →
 Places h is before now = placed (after device h is) ≡ record { tallied = map closed before ++ now; device = now }
 
 -- `few`
-abbrev Few : History device → List Input → Type 0
-Few h is = leb (length (opens (after device h is))) 16 ≡ true
+abbrev bounded : History device → Bool
+bounded h = leb (length (opens h)) 16
 
 -- ---- scripts
 
 -- a TX with skip_cad: on air at once, if the radio is free
 abbrev tx : ℕ → List Input
-tx t = sends TX t (0x01 ∷ 0x41 ∷ [])
+tx t = sentAs TX t (0x01 ∷ 0x41 ∷ [])
 
 -- the TX 20 on air, the TX 21 waiting
 abbrev two : List Input
@@ -133,13 +139,13 @@ txs (suc n) = txs n ++ tx (suc n)
 
 -- two packets: a quiet one, and one over 255 bytes
 abbrev quiet : Packet
-quiet = record { rssi = negsuc 819; snr = pos 80; freq-err = pos 7; time = 50000000; crc-valid = true; bytes = 0xAA ∷ [] }
+quiet = record { rssi = negsuc 819; snr = pos 80; «freq_err» = pos 7; «timestamp_us» = 50000000; «crc_valid» = true; bytes = 0xAA ∷ [] }
 
 abbrev long : Packet
-long = record { rssi = pos 0; snr = pos 0; freq-err = pos 0; time = 0; crc-valid = true; bytes = replicate 256 0xBB }
+long = record { rssi = pos 0; snr = pos 0; «freq_err» = pos 0; «timestamp_us» = 0; «crc_valid» = true; bytes = replicate 256 0xBB }
 
 abbrev hears : List Packet → List Input
-hears ps = sends RX-START 10 [] ++ map (λ p. lent (packet p)) ps
+hears ps = sentAs RX-START 10 [] ++ map (λ p. lent (packet p)) ps
 
 -- ---- what is written and ordered
 
@@ -150,20 +156,19 @@ ok t = message t A.Ok []
 abbrev Command : History device → List Input → ℕ → ℕ → List ℕ → List Message → Order → Type 0
 Command h is kind t p ms o = Gives h (is ++ bytesIn (encoded (body kind t p))) (byte 0) ms o
 
--- TX: a packet of 70 bytes goes on air unchanged, with skip_cad at once; without it the radio listens first under LoRa; the sixteenth is taken; without a
--- payload, before any SET_CONFIG
+-- TX: a packet of 70 bytes goes on air unchanged, with skip_cad at once; without it the radio listens first under LoRa; without a payload, before any
+-- SET_CONFIG
 pub transmits :
     Command setUp [] TX 20 (0x01 ∷ replicate 70 0x41) (ok 20 ∷ []) (transmit (replicate 70 0x41) false)
     × Command setUp [] TX 20 (0x00 ∷ 0x41 ∷ []) (ok 20 ∷ []) (transmit (0x41 ∷ []) true)
-    × Command setUp (txs 15) TX 16 (0x01 ∷ 0x41 ∷ []) (ok 16 ∷ []) nothing
     × Command fresh [] TX 20 [] (errDue ENOTCONFIGURED 20 ∷ []) nothing
 unfolding computes answered
-transmits = (refl, refl, refl, refl)
+transmits = (refl, refl, refl)
 
 -- the outcomes of a TX: sent, with one that waits; a busy channel; a fault
 pub outcomes :
     Gives setUp two (sent 33792) (doneDue 0 33792 20 ∷ []) (transmit (0x41 ∷ []) false)
-    × Gives setUp (sends TX 20 (0x00 ∷ 0x41 ∷ [])) busy (doneDue 1 0 20 ∷ []) standby
+    × Gives setUp (sentAs TX 20 (0x00 ∷ 0x41 ∷ [])) busy (doneDue 1 0 20 ∷ []) standby
     × Gives setUp (tx 20) fault (errDue ERADIO 0 ∷ doneDue 2 0 20 ∷ []) standby
 unfolding computes answered
 outcomes = (refl, refl, refl)
@@ -172,9 +177,9 @@ outcomes = (refl, refl, refl)
 -- said
 pub configures :
     Command fresh [] SET-CONFIG 3 (lora 12 14) [] (configure (settingIn 3 (lora 12 14) .config) true)
-    × Gives fresh (sends SET-CONFIG 3 (lora 12 14)) configured
+    × Gives fresh (sentAs SET-CONFIG 3 (lora 12 14)) configured
     (message 3 (A.Configured (record { result = 0; owner = 1; current = settingIn 3 (lora 12 14) .config .modulation })) [] ∷ []) nothing
-    × Gives fresh (sends SET-CONFIG 3 (lora 12 14) ++ (lent disconnect ∷ [])) configured [] standby
+    × Gives fresh (sentAs SET-CONFIG 3 (lora 12 14) ++ (lent disconnect ∷ [])) configured [] standby
 unfolding computes answered
 configures = (refl, refl, refl)
 
@@ -185,10 +190,10 @@ interrupted = bytesIn (0x03 ∷ 0x01 ∷ []) ++ (lent tick ∷ bytesIn (0x01 ∷
 -- the rest of what a host sends: RX_STOP while a TX is on air orders nothing; a run that holds the byte 7F; a tick between the bytes of a PING; GET_INFO; a
 -- damaged frame; a disconnect with a free radio
 pub asks :
-    Command setUp (sends RX-START 10 [] ++ tx 20) RX-STOP 11 [] (ok 11 ∷ []) nothing
+    Command setUp (sentAs RX-START 10 [] ++ tx 20) RX-STOP 11 [] (ok 11 ∷ []) nothing
     × Command fresh [] PING 0x7F7F [] (ok 0x7F7F ∷ []) nothing
-    × Gives fresh (sends PING 1 [] ++ interrupted) (byte 0) (ok 1 ∷ []) nothing
-    × Command fresh [] GET-INFO 2 [] (message 2 (A.Info (infoOf sx1262)) (uidsOf sx1262) ∷ []) nothing
+    × Gives fresh (sentAs PING 1 [] ++ interrupted) (byte 0) (ok 1 ∷ []) nothing
+    × Command fresh [] GET-INFO 2 [] (message 2 (A.Info (boardInfo sx1262)) (uidsOf sx1262) ∷ []) nothing
     × Gives fresh (bytesIn (0x05 ∷ [])) (byte 0) (errDue EFRAME 0 ∷ []) nothing
     × Gives setUp [] disconnect [] standby
 unfolding computes answered
@@ -198,7 +203,16 @@ asks = (refl, refl, refl, refl, refl, refl)
 abbrev delivers : Packet → ℕ → List ℕ → Message
 delivers p valid bs =
     message 0
-    (A.Rx (record { rssi = p .rssi; snr = p .snr; «freq_err» = p .freq-err; «timestamp_us» = p .time; «crc_valid» = valid; «packets_dropped» = 0; origin = 0 }))
+    (A.Rx
+    (record {
+      rssi = p .rssi;
+      snr = p .snr;
+      «freq_err» = p .«freq_err»;
+      «timestamp_us» = p .«timestamp_us»;
+      «crc_valid» = valid;
+      «packets_dropped» = 0;
+      origin = 0;
+    }))
     bs
 
 pub delivered :
@@ -211,8 +225,8 @@ delivered = (refl, refl)
 
 -- after a fault while configuring bytes are taken again; a packet does not fit while a TX is on air, and still fits after a damaged frame
 pub refuses :
-    Gives fresh (sends SET-CONFIG 3 (lora 7 14) ++ (lent fault ∷ [])) (byte 3) [] nothing
-    × Refuses setUp (sends RX-START 10 [] ++ tx 20) (packet quiet) 3
+    Gives fresh (sentAs SET-CONFIG 3 (lora 7 14) ++ (lent fault ∷ [])) (byte 3) [] nothing
+    × Refuses setUp (sentAs RX-START 10 [] ++ tx 20) (packet quiet) 3
     × Gives setUp (hears [] ++ bytesIn (0x05 ∷ 0x00 ∷ [])) (packet quiet) [] nothing
 unfolding computes answered
 refuses = (refl, refl, refl)
@@ -229,7 +243,7 @@ reports = (refl, refl, refl)
 
 -- after a fault while a SET_CONFIG waits, and then 1000 ticks; after 1000 ticks while a TX is on air; with one tag three times
 abbrev faulted : List Input
-faulted = two ++ (sends SET-CONFIG 22 (lora 7 14) ++ (lent fault ∷ replicate 1000 (lent tick)))
+faulted = two ++ (sentAs SET-CONFIG 22 (lora 7 14) ++ (lent fault ∷ replicate 1000 (lent tick)))
 
 pub places :
     Places setUp faulted (was-reported 20 ∷ was-reported 21 ∷ []) []
@@ -238,17 +252,34 @@ pub places :
 unfolding computes placed
 places = (refl, refl, refl)
 
--- of 17 TX
-pub seventeen : Few setUp (txs 17)
-unfolding computes
+-- of 17 TX: the zero that ends the sixteenth has its OK, and after the seventeenth there are few
+pub record Full : Type 0 where
+  sixteenth : Answered
+  bounded : Bool
+
+unfoldable pub full : History device → Full
+full h = record { sixteenth = answered h (byte 0); bounded = bounded (after device (onward device h (lent (byte 0))) (tx 17)) }
+
+pub seventeen :
+    full (after device setUp (txs 15 ++ bytesIn (encoded (body TX 16 (0x01 ∷ 0x41 ∷ [])))))
+    ≡ record { sixteenth = given 0 (ok 16 ∷ []) nothing; bounded = true }
+unfolding computes answered full
 seventeen = refl
 
 -- ---- the drop count
 
 -- 65 packets, and two requests: the first RX reports one lost, the second none
-abbrev Counts : List Input → List ℕ → Type 0
-Counts is ns = dropCounts (frames (answer device (after device setUp is) (lent request) .bytes)) ≡ ns
+pub record Counted : Type 0 where
+  first : List ℕ
+  second : List ℕ
 
-pub drops : Counts (hears (replicate 65 quiet)) (1 ∷ []) × Counts (hears (replicate 65 quiet) ++ (lent request ∷ [])) (0 ∷ [])
-unfolding computes
-drops = (refl, refl)
+unfoldable pub counted : History device → Counted
+counted h =
+    record {
+      first = dropCounts (frames (answer device h (lent request) .bytes));
+      second = dropCounts (frames (answer device (onward device h (lent request)) (lent request) .bytes));
+    }
+
+pub drops : counted (after device setUp (hears (replicate 65 quiet))) ≡ record { first = 1 ∷ []; second = 0 ∷ [] }
+unfolding computes counted
+drops = refl

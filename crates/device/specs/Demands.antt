@@ -8,7 +8,7 @@ use mathlib.Core.Bool.{Bool, true, false, cond, _&&_}
 use mathlib.Core.List.{List, [], _∷_, _++_, map}
 use lib.Dec.{ltb, eqb}
 use lib.ListN.{length, take, getD}
-use Rattle.numbers.specs.Numbers.{TAKEN}
+use Rattle.status.specs.Numbers.{TAKEN}
 use Rattle.kind.specs.Kinds.{ERR, RX, EFRAME}
 use Rattle.rx.specs.Rx.{rxOf}
 use Rattle.buffer.specs.Lay.{lay}
@@ -20,19 +20,20 @@ use Rattle.cobs.specs.Answers.{encodedMax}
 use Rattle.frame.specs.Body.{body}
 use Rattle.frame.specs.declared.Opened.the-variants as O
 use Rattle.frame.specs.declared.Written.the-variants as W
-use Rattle.answer.specs.Answers.{answerKind, answerName, Names, readAnswer, answerTail}
+use Rattle.answer.specs.Answers.{answerKind, answerName, MayAnswer, readAnswer, answerTail}
 use Rattle.answer.specs.declared.Answered.the-variants as D
-use Rattle.verdict.specs.declared.Kinds.the-variants as K
+use Rattle.wellformed.specs.declared.Kinds.the-variants as K
 use Rattle.reader.specs.Reading.{receiveAnswer}
 use Rattle.writer.specs.Writing.{writeAnswer, writeLeft}
 use Rattle.board.specs.Board.{Board}
 use Rattle.device.specs.State.{State, link, withLink, powerUp, held, tagsOf}
 use Rattle.device.specs.State.{Event, byte, tick, clear, busy, sent, configured, fault, packet, request, disconnect, Input, Order, nothing}
-use Rattle.device.specs.Messages.{Message, payload, wire, wires, Frame, frame, seen}
+use Rattle.device.specs.Messages.{Message, payload, messageBytes, messagesBytes, Frame, frame, seen}
 use Rattle.device.specs.Frames.{Received, damaged, command}
 use Rattle.device.specs.Reading.{frames, brings}
 use Rattle.device.specs.Events.{does, Out, taken, refused, step, Reply, reply}
-use Rattle.device.specs.Tally.{Place, reported, dropped, withRadio, waits, Entry, entry, open?, Tally, noTally, ifTaken, tallied, wrote, dones, reportedTags, newlyReported}
+use Rattle.device.specs.Tally.{Place, reported, dropped, withRadio, waits, Entry, entry, open?, Tally}
+use Rattle.device.specs.Tally.{noTally, ifTaken, tallied, wrote, dones, reportedTags, newlyReported}
 use Rattle.device.specs.Observer.{Observer, knowsNothing, observed}
 use Rattle.device.specs.Due.{reconfiguring, cause, numberDue, errDue, messagesDue, orderDue}
 use Rattle.device.specs.Ranges.{InputIn}
@@ -46,7 +47,7 @@ causeIn s i = cause (i .room) (reconfiguring (s .air .pending) (s .air .radio)) 
 -- Of an answer x, of any kind, with the cause n: its number is the cause's, and a refusal writes nothing and changes nothing. `number` reads the number off an
 -- answer, and `refuse` is the answer that does nothing else.
 pub record Exact {A : Type 0} (number : A → ℕ) (refuse : ℕ → A) (n : ℕ) (x : A) : Type 0 where
-  pub tells : number x ≡ n
+  pub returns : number x ≡ n
   pub stays : (k : ℕ) → n ≡ suc k → x ≡ refuse (suc k)
 
 -- demand1
@@ -131,7 +132,7 @@ history y is = after y (begins y) is
 
 -- demand1-seen: the number of one event more is the cause's that the observer sees; a refusal writes nothing, orders nothing and changes nothing
 pub record Demand1Seen (y : System) (is : List (y .Given)) (i : y .Given) : Type 0 where
-  pub tells : answer y (history y is) i .number ≡ numberDue (y .room i) (y .event i) (history y is .observer)
+  pub returns : answer y (history y is) i .number ≡ numberDue (y .room i) (y .event i) (history y is .observer)
   pub stays : (n : ℕ) → answer y (history y is) i .number ≡ suc n
       → (answer y (history y is) i .bytes ≡ []) × (answer y (history y is) i .order ≡ nothing) × (y .next (history y is .device) i ≡ history y is .device)
 
@@ -148,7 +149,7 @@ orderNext b y is i = orderDue b (answer y (history y is) i .number) (y .event i)
 -- counted
 pub record Contents (b : Board) (y : System) (is : List (y .Given)) (i : y .Given) : Type 0 where
   pub count : answer y (history y is) i .count ≡ length (answer y (history y is) i .bytes)
-  pub bytes : answer y (history y is) i .bytes ≡ wires (messagesNext b y is i)
+  pub bytes : answer y (history y is) i .bytes ≡ messagesBytes (messagesNext b y is i)
   pub order : answer y (history y is) i .order ≡ orderNext b y is i
 
 -- ---- demand 2, damaged frames, by what was seen
@@ -183,22 +184,25 @@ eframes (frame k t p ∷ fs) = cond (eqb k ERR && (eqb t 0 && eqb (number p) EFR
 -- demand2-seen: one event more draws ERR(EFRAME) with tag 0, once, where it ends a damaged run, and else not; and there it writes nothing else and orders
 -- nothing
 pub record Demand2Seen (y : System) (is : List (y .Given)) (i : y .Given) : Type 0 where
-  pub tells : eframes (frames (answer y (history y is) i .bytes))
+  pub returns : eframes (frames (answer y (history y is) i .bytes))
       ≡ ifTaken (answer y (history y is) i .number) (cond (endsDamaged (y .event i) (history y is .tally .run)) 1 0) 0
   pub alone : answer y (history y is) i .number ≡ TAKEN → endsDamaged (y .event i) (history y is .tally .run) ≡ true
-      → (answer y (history y is) i .bytes ≡ wire (errDue EFRAME 0)) × (answer y (history y is) i .order ≡ nothing)
+      → (answer y (history y is) i .bytes ≡ messageBytes (errDue EFRAME 0)) × (answer y (history y is) i .order ≡ nothing)
 
 -- ---- demand 2, the bytes: what an event writes is read back as the messages written
 
 -- The writer of answers (crate compose) takes it into any memory that an event may be lent, and writes just these bytes; and the host's reader, with any
 -- command named that the answer may have, takes the frame, and has the same answer with the same bytes.
 pub record Back (m : Message) : Type 0 where
-  pub written : (room : ℕ) → 283 ≤ room → writeAnswer (K.Answers (answerName (m .answer))) (answerKind (m .answer)) (m .tag) (payload m) room ≡ W.Done (length (wire m))
-  pub left : (d : List ℕ) → 283 ≤ length d → writeLeft (K.Answers (answerName (m .answer))) (answerKind (m .answer)) (m .tag) (payload m) d ≡ lay 0 (wire m) d
-  pub taken : (name : Name) → Names (m .answer) name → receiveAnswer (K.Answers name) (encoded (body (answerKind (m .answer)) (m .tag) (payload m))) encodedMax
+  pub written : (room : ℕ) → 283 ≤ room
+      → writeAnswer (K.Answers (answerName (m .answer))) (answerKind (m .answer)) (m .tag) (payload m) room ≡ W.Done (length (messageBytes m))
+  pub left : (d : List ℕ) → 283 ≤ length d
+      → writeLeft (K.Answers (answerName (m .answer))) (answerKind (m .answer)) (m .tag) (payload m) d ≡ lay 0 (messageBytes m) d
+  pub taken : (name : Name) → MayAnswer (m .answer) name
+      → receiveAnswer (K.Answers name) (encoded (body (answerKind (m .answer)) (m .tag) (payload m))) encodedMax
       ≡ O.Body (answerKind (m .answer)) (m .tag) (length (payload m))
-  pub same : (name : Name) → Names (m .answer) name → readAnswer (answerKind (m .answer)) name (payload m) ≡ D.Answer (m .answer)
-  pub bytes : (name : Name) → Names (m .answer) name → answerTail (answerKind (m .answer)) name (payload m) ≡ m .bytes
+  pub same : (name : Name) → MayAnswer (m .answer) name → readAnswer (answerKind (m .answer)) name (payload m) ≡ D.Answer (m .answer)
+  pub bytes : (name : Name) → MayAnswer (m .answer) name → answerTail (answerKind (m .answer)) name (payload m) ≡ m .bytes
 
 -- demand2-wire: splitting the bytes of one event more at their zeros and opening each run gives the messages that are due, and each is read as the same message
 pub record Demand2Wire (b : Board) (y : System) (is : List (y .Given)) (i : y .Given) : Type 0 where
@@ -230,7 +234,7 @@ pub record Demand3 (y : System) (is : List (y .Given)) : Type 0 where
   pub before : List Closed
   pub places : history y is .tally .txs ≡ map closed before ++ (withRadioOf y (history y is .device) ++ waitingOf y (history y is .device))
   pub one : length (withRadioOf y (history y is .device)) ≤ 1
-  pub few : length (withRadioOf y (history y is .device) ++ waitingOf y (history y is .device)) ≤ 16
+  pub bounded : length (withRadioOf y (history y is .device) ++ waitingOf y (history y is .device)) ≤ 16
   -- the TX_DONEs that one event more writes are those of the TX that the tally reports at it: one each, with its tag, in number order
   pub each : (i : y .Given) → y .GivenIn i
       → dones (frames (answer y (history y is) i .bytes)) ≡ newlyReported (history y is .tally .txs) (onward y (history y is) i .tally .txs)
@@ -244,9 +248,9 @@ pub record Demand3 (y : System) (is : List (y .Given)) : Type 0 where
 -- ---- 01's last line on events
 
 -- how many of some entries are open
-unfoldable pub opens : List Entry → ℕ
-opens [] = 0
-opens (entry t p ∷ xs) = cond (open? p) 1 0 + opens xs
+unfoldable pub openCount : List Entry → ℕ
+openCount [] = 0
+openCount (entry t p ∷ xs) = cond (open? p) 1 0 + openCount xs
 
 abbrev pub outcome? : Event → Bool
 outcome? (byte n) = false
@@ -276,7 +280,7 @@ placeAt n xs = placeOf (getD xs n (entry 0 waits))
 abbrev pub InTime : (y : System) → List (y .Given) → Type 0
 InTime y is =
     (n : ℕ) → n < length (history y is .tally .txs) → (js : List (y .Given)) → Each (y .GivenIn) js
-    → suc (opens (take n (history y is .tally .txs))) ≤ outcomes y (history y is) js
+    → suc (openCount (take n (history y is .tally .txs))) ≤ outcomes y (history y is) js
     → open? (placeAt n (after y (history y is) js .tally .txs)) ≡ false
 
 -- ---- the drop count

@@ -8,21 +8,23 @@ use mathlib.Core.List.{List, [], _∷_, _++_}
 use mathlib.Core.Option.{Option, none, some}
 use lib.Dec.{leb, ltb, eqb}
 use lib.ListN.{length}
-use Rattle.numbers.specs.Numbers.{TAKEN, ROOM, STALL, PLACE}
+use Rattle.status.specs.Numbers.{TAKEN, ROOM, STALL, PLACE}
 use Rattle.scalar.specs.Scalars.{get}
-use Rattle.kind.specs.Kinds.{PING, GET-INFO, SET-CONFIG, TX, RX-START, RX-STOP, EPARAM, ELENGTH, ENOTCONFIGURED, EMODULATION, EUNKNOWN-CMD, EBUSY, ERADIO, EFRAME}
+use Rattle.kind.specs.Kinds.{PING, GET-INFO, SET-CONFIG, TX, RX-START, RX-STOP, EPARAM, ELENGTH}
+use Rattle.kind.specs.Kinds.{ENOTCONFIGURED, EMODULATION, EUNKNOWN-CMD, EBUSY, ERADIO, EFRAME}
 use Rattle.modulation.specs.Lora.{loraSize}
-use Rattle.modulation.specs.Fsk.{fskSize, sync-word-len}
-use Rattle.modulation.specs.Modulations.{LORA, FSK, modulation-id, configOf}
+use Rattle.modulation.specs.Fsk.{fskSize, «sync_word_len»}
+use Rattle.modulation.specs.Modulations.{LORA, FSK, «modulation_id», configOf}
 use Rattle.modulation.specs.declared.Modulation.{Modulation}
 use Rattle.modulation.specs.declared.Modulation.the-variants as M
 use Rattle.command.specs.Commands.{flags}
 use Rattle.answer.specs.declared.Answer.the-variants as A
-use Rattle.board.specs.Board.{Board, infoOf, uidsOf}
+use Rattle.board.specs.Board.{Board, boardInfo, uidsOf}
 use Rattle.board.specs.Params.{paramsGood}
 use Rattle.board.specs.Ldro.{ldro}
 use Rattle.device.specs.State.{Config, Setting, Tx, RadioOf, Radio, free, listening, onAir, orphan, configuring, Packet, Air}
-use Rattle.device.specs.State.{Event, byte, tick, clear, busy, sent, configured, fault, packet, request, disconnect, Order, nothing, standby, configure, transmit, receive}
+use Rattle.device.specs.State.{Event, byte, tick, clear, busy, sent, configured, fault, packet, request}
+use Rattle.device.specs.State.{disconnect, Order, nothing, standby, configure, transmit, receive}
 use Rattle.device.specs.Messages.{Message, message}
 use Rattle.device.specs.Frames.{Received, damaged, command}
 use Rattle.device.specs.Reading.{brings}
@@ -118,9 +120,9 @@ valueError true true = none
 abbrev pub configError : Board → List ℕ → Option ℕ
 configError b [] = some ELENGTH
 configError b (m ∷ ps) =
-    cond (eqb (get modulation-id (m ∷ ps)) LORA) (valueError (eqb (length ps) loraSize) (paramsGood b (configOf (m ∷ ps))))
-    (cond (eqb (get modulation-id (m ∷ ps)) FSK)
-    (valueError (leb fskSize (length ps) && eqb (length ps) (fskSize + get sync-word-len ps)) (paramsGood b (configOf (m ∷ ps))))
+    cond (eqb (get «modulation_id» (m ∷ ps)) LORA) (valueError (eqb (length ps) loraSize) (paramsGood b (configOf (m ∷ ps))))
+    (cond (eqb (get «modulation_id» (m ∷ ps)) FSK)
+    (valueError (leb fskSize (length ps) && eqb (length ps) (fskSize + get «sync_word_len» ps)) (paramsGood b (configOf (m ∷ ps))))
     (some EMODULATION))
 
 -- TX: a packet of 1 to 255 bytes, flags of 0 or 1, and not 16 open already; n are
@@ -169,13 +171,13 @@ abbrev pub unlessError : Option ℕ → ℕ → ℕ → List ℕ → Brought
 unlessError (some code) kind t p = wrong code t
 unlessError none kind t p = right kind t p
 
-abbrev pub judged : Board → Received → Observer → Brought
-judged b damaged k = damage
-judged b (command kind t p) k = unlessError (commandError b (k .config) (opened (k .air .radio) (k .air .waiting)) kind p) kind t p
+abbrev pub judgedBy : Board → Received → Observer → Brought
+judgedBy b damaged k = damage
+judgedBy b (command kind t p) k = unlessError (commandError b (k .config) (opened (k .air .radio) (k .air .waiting)) kind p) kind t p
 
 abbrev pub runBrings : Board → List ℕ → Observer → Brought
 runBrings b [] k = no-frame
-runBrings b (r ∷ rs) k = judged b (brings (r ∷ rs)) k
+runBrings b (r ∷ rs) k = judgedBy b (brings (r ∷ rs)) k
 
 abbrev pub byteBrings : Board → ℕ → List ℕ → Observer → Brought
 byteBrings b zero run k = runBrings b run k
@@ -193,7 +195,7 @@ broughtAnswer b damage = errDue EFRAME 0 ∷ []
 broughtAnswer b (wrong code t) = errDue code t ∷ []
 broughtAnswer b (right kind t p) =
     cond (eqb kind SET-CONFIG) []
-    (cond (eqb kind GET-INFO) (message t (A.Info (infoOf b)) (uidsOf b) ∷ [])
+    (cond (eqb kind GET-INFO) (message t (A.Info (boardInfo b)) (uidsOf b) ∷ [])
     (message t A.Ok [] ∷ []))
 
 -- of the SET_CONFIG that runs: OK with result 0, owner 1 and its parameters
@@ -287,9 +289,9 @@ oldest (p ∷ ps) lost =
     (record {
       rssi = p .rssi;
       snr = p .snr;
-      «freq_err» = p .freq-err;
-      «timestamp_us» = p .time;
-      «crc_valid» = cond (p .crc-valid) 1 0;
+      «freq_err» = p .«freq_err»;
+      «timestamp_us» = p .«timestamp_us»;
+      «crc_valid» = cond (p .«crc_valid») 1 0;
       «packets_dropped» = min lost 65535;
       origin = 0;
     }))

@@ -6,17 +6,19 @@ use mathlib.Core.List.{List, [], _∷_, _++_}
 use mathlib.Core.Option.{Option, none, some}
 use lib.Dec.{leb, ltb, eqb}
 use lib.ListN.{length, take, drop}
-use Rattle.numbers.specs.Numbers.{TAKEN, ROOM, STALL, PLACE}
+use Rattle.status.specs.Numbers.{TAKEN, ROOM, STALL, PLACE}
 use Rattle.frame.specs.Body.{frameMax}
 use Rattle.kind.specs.Kinds.{GET-INFO, SET-CONFIG, TX, RX-START, RX-STOP, ERADIO, EFRAME, TRANSMITTED, CHANNEL-BUSY, CANCELLED, packetMax}
 use Rattle.modulation.specs.declared.Modulation.{Modulation}
 use Rattle.modulation.specs.declared.Modulation.the-variants as M
 use Rattle.board.specs.Board.{Board, ringMax}
 use Rattle.board.specs.Ldro.{ldro}
-use Rattle.device.specs.State.{Config, Setting, Tx, RadioOf, Radio, free, listening, onAir, orphan, configuring, Packet, Inbox, State, link, air, inbox, state, withConfig, withLink, withAir, withInbox, silent, deaf, tagsOf, free?, stalled}
-use Rattle.device.specs.State.{Event, byte, tick, clear, busy, sent, configured, fault, packet, request, disconnect, Input, Order, nothing, standby, configure, transmit, receive}
-use Rattle.device.specs.Messages.{Message, ok, okInfo, okConfigured, err, txDone, cancelled, rx, wires}
-use Rattle.device.specs.Frames.{Received, damaged, command, received, objection, settingOf, txOf}
+use Rattle.device.specs.State.{Config, Setting, Tx, RadioOf, Radio, free, listening, onAir, orphan, configuring, Packet, Inbox, State}
+use Rattle.device.specs.State.{link, air, inbox, state, withConfig, withLink, withAir, withInbox, noSession, noReception, tagsOf, free?, stalled}
+use Rattle.device.specs.State.{Event, byte, tick, clear, busy, sent, configured, fault, packet, request}
+use Rattle.device.specs.State.{disconnect, Input, Order, nothing, standby, configure, transmit, receive}
+use Rattle.device.specs.Messages.{Message, ok, okInfo, okConfigured, err, txDone, cancelled, rx, messagesBytes}
+use Rattle.device.specs.Frames.{Received, damaged, command, received, errorOf, settingOf, txOf}
 
 -- what an event does that is taken: the next state, the messages written and the radio order
 pub record Done : Type 0 where
@@ -28,8 +30,8 @@ abbrev pub does : State → List Message → Order → Done
 does s ms o = record { next = s; written = ms; order = o }
 
 -- one message is written
-abbrev pub says : Message → Order → State → Done
-says m o s = does s (m ∷ []) o
+abbrev pub writesFirst : Message → Order → State → Done
+writesFirst m o s = does s (m ∷ []) o
 
 -- what an event is answered with: the number too
 pub record Out : Type 0 where
@@ -68,7 +70,7 @@ start x ws ms s =
 
 abbrev pub waitsFor : Tx → Radio → State → Done
 waitsFor x r s =
-    says (ok (x .tag)) nothing (withAir (air r (s .air .waiting ++ (x ∷ [])) (s .air .pending)) s)
+    writesFirst (ok (x .tag)) nothing (withAir (air r (s .air .waiting ++ (x ∷ [])) (s .air .pending)) s)
 
 abbrev pub onTx : Tx → Radio → State → Done
 onTx x free s = start x (s .air .waiting) (ok (x .tag) ∷ []) s
@@ -139,7 +141,7 @@ onSet c (configuring d) s = begin c (cancelled (tagsOf (s .air .waiting))) s
 
 -- CONFIGURED, and the OK that was withheld. Where the session has ended, neither: the radio goes to standby.
 abbrev pub inForce : Bool → Setting → State → Done
-inForce true c s = says (okConfigured c) nothing (withConfig (some (c .config)) (withAir (air free (s .air .waiting) (s .air .pending)) s))
+inForce true c s = writesFirst (okConfigured c) nothing (withConfig (some (c .config)) (withAir (air free (s .air .waiting) (s .air .pending)) s))
 inForce false c s = does (withAir (air free (s .air .waiting) (s .air .pending)) s) [] standby
 
 abbrev pub onConfigured : Radio → State → Out
@@ -152,19 +154,19 @@ onConfigured (configuring c) s = taken (inForce (s .link .session) c s)
 -- ---- fault
 
 -- a message that is written in an open session only
-abbrev pub heard : Bool → Message → List Message
-heard true m = m ∷ []
-heard false m = []
+abbrev pub ifSession : Bool → Message → List Message
+ifSession true m = m ∷ []
+ifSession false m = []
 
 -- While configuring, it fails the SET_CONFIG: ERR(ERADIO) with its tag, UNCONFIGURED, standby. Otherwise ERR(ERADIO) comes with tag 0, then the TX with the
 -- radio is reported with 2, and then all goes on as after a TX.
 abbrev pub onFault : Radio → State → Done
-onFault free s = afterTx (heard (s .link .session) (err ERADIO 0)) s
-onFault (listening t) s = afterTx (heard (s .link .session) (err ERADIO 0) ++ (txDone CANCELLED 0 t ∷ [])) s
-onFault (onAir t) s = afterTx (heard (s .link .session) (err ERADIO 0) ++ (txDone CANCELLED 0 t ∷ [])) s
-onFault orphan s = afterTx (heard (s .link .session) (err ERADIO 0)) s
+onFault free s = afterTx (ifSession (s .link .session) (err ERADIO 0)) s
+onFault (listening t) s = afterTx (ifSession (s .link .session) (err ERADIO 0) ++ (txDone CANCELLED 0 t ∷ [])) s
+onFault (onAir t) s = afterTx (ifSession (s .link .session) (err ERADIO 0) ++ (txDone CANCELLED 0 t ∷ [])) s
+onFault orphan s = afterTx (ifSession (s .link .session) (err ERADIO 0)) s
 onFault (configuring c) s =
-    does (withConfig none (withAir (air free (s .air .waiting) (s .air .pending)) s)) (heard (s .link .session) (err ERADIO (c .tag))) standby
+    does (withConfig none (withAir (air free (s .air .waiting) (s .air .pending)) s)) (ifSession (s .link .session) (err ERADIO (c .tag))) standby
 
 -- ---- packet
 
@@ -174,9 +176,9 @@ cut p =
     record {
       rssi = p .rssi;
       snr = p .snr;
-      freq-err = p .freq-err;
-      time = p .time;
-      crc-valid = p .crc-valid && leb (length (p .bytes)) packetMax;
+      «freq_err» = p .«freq_err»;
+      «timestamp_us» = p .«timestamp_us»;
+      «crc_valid» = p .«crc_valid» && leb (length (p .bytes)) packetMax;
       bytes = take packetMax (p .bytes);
     }
 
@@ -204,7 +206,7 @@ changed false was = was
 
 abbrev pub turned : Bool → ℕ → State → Done
 turned on t s =
-    says (ok t) (cond (free? (s .air .radio) && changed on (s .inbox .receiving)) (idle on) nothing)
+    writesFirst (ok t) (cond (free? (s .air .radio) && changed on (s .inbox .receiving)) (idle on) nothing)
     (withInbox (inbox on (s .inbox .ring) (s .inbox .drops)) s)
 
 -- ---- request
@@ -212,7 +214,7 @@ turned on t s =
 -- the oldest packet goes out with the count, and the count begins anew
 abbrev pub onRequest : List Packet → State → Done
 onRequest [] s = does s [] nothing
-onRequest (p ∷ ps) s = says (rx p (s .inbox .drops)) nothing (withInbox (inbox (s .inbox .receiving) ps 0) s)
+onRequest (p ∷ ps) s = writesFirst (rx p (s .inbox .drops)) nothing (withInbox (inbox (s .inbox .receiving) ps 0) s)
 
 -- ---- tick, disconnect
 
@@ -226,7 +228,7 @@ ended (configuring c) = configuring c
 
 -- Of the rest it leaves nothing: no configuration, no run, no open TX, no waiting SET_CONFIG, no packet. Standby is ordered if the radio is free.
 abbrev pub endSession : Radio → Done
-endSession r = does (state none silent (air (ended r) [] none) deaf) [] (cond (free? (ended r)) standby nothing)
+endSession r = does (state none noSession (air (ended r) [] none) noReception) [] (cond (free? (ended r)) standby nothing)
 
 -- the tick that makes the liveness count 1000 ends the session
 abbrev pub ticksMax : ℕ
@@ -247,23 +249,23 @@ onDisconnect false s = does (withLink (link false (s .link .ticks) []) s) [] not
 
 -- ---- byte
 
--- a command without objection; a SET_CONFIG empties the ring, clears the count and ends receiving before anything else
+-- a command without an error; a SET_CONFIG empties the ring, clears the count and ends receiving before anything else
 abbrev pub onCommand : Board → ℕ → ℕ → List ℕ → State → Done
 onCommand b kind t p s =
     cond (eqb kind TX) (onTx (txOf t p) (s .air .radio) s)
-    (cond (eqb kind SET-CONFIG) (onSet (settingOf t p) (s .air .radio) (withInbox deaf s))
+    (cond (eqb kind SET-CONFIG) (onSet (settingOf t p) (s .air .radio) (withInbox noReception s))
     (cond (eqb kind RX-START) (turned true t s)
     (cond (eqb kind RX-STOP) (turned false t s)
-    (cond (eqb kind GET-INFO) (says (okInfo b t) nothing s)
-    (says (ok t) nothing s)))))
+    (cond (eqb kind GET-INFO) (writesFirst (okInfo b t) nothing s)
+    (writesFirst (ok t) nothing s)))))
 
 abbrev pub unless : Option ℕ → Board → ℕ → ℕ → List ℕ → State → Done
-unless (some code) b kind t p s = says (err code t) nothing s
+unless (some code) b kind t p s = writesFirst (err code t) nothing s
 unless none b kind t p s = onCommand b kind t p s
 
 abbrev pub onReceived : Board → Received → State → Done
-onReceived b damaged s = says (err EFRAME 0) nothing s
-onReceived b (command kind t p) s = unless (objection b s kind p) b kind t p s
+onReceived b damaged s = writesFirst (err EFRAME 0) nothing s
+onReceived b (command kind t p) s = unless (errorOf b s kind p) b kind t p s
 
 -- a run that isn't empty opens a session if there is none, sets the liveness count to 0, and is judged; an empty one is nothing
 abbrev pub onRun : Board → List ℕ → State → Done
@@ -314,4 +316,4 @@ pub record Reply : Type 0 where
   pub order : Order
 
 abbrev pub reply : Out → Reply
-reply o = record { number = o .number; count = length (wires (o .written)); bytes = wires (o .written); order = o .order }
+reply o = record { number = o .number; count = length (messagesBytes (o .written)); bytes = messagesBytes (o .written); order = o .order }

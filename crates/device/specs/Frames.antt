@@ -15,8 +15,8 @@ use Rattle.frame.specs.declared.Opened.{Opened}
 use Rattle.frame.specs.declared.Opened.the-variants as O
 use Rattle.kind.specs.Kinds.{SET-CONFIG, TX, RX-START, RX-STOP, isCommand, EPARAM, ELENGTH, ENOTCONFIGURED, EMODULATION, EUNKNOWN-CMD, EBUSY, packetMax}
 use Rattle.modulation.specs.Lora.{loraSize}
-use Rattle.modulation.specs.Fsk.{fskSize, sync-word-len}
-use Rattle.modulation.specs.Modulations.{LORA, FSK, modulation-id, configOf, syncWord}
+use Rattle.modulation.specs.Fsk.{fskSize, «sync_word_len»}
+use Rattle.modulation.specs.Modulations.{LORA, FSK, «modulation_id», configOf, syncWord}
 use Rattle.command.specs.Commands.{flags, flagsSize, flagsMax, packetOf}
 use Rattle.board.specs.Board.{Board, txMax}
 use Rattle.board.specs.Params.{paramsGood}
@@ -50,16 +50,16 @@ abbrev pub needsConfig : ℕ → Bool
 needsConfig kind = eqb kind TX || (eqb kind RX-START || eqb kind RX-STOP)
 
 -- 4. SET_CONFIG with a payload: modulation not 1 or 2
-abbrev pub strange : List ℕ → Bool
-strange [] = false
-strange (b ∷ bs) = not (eqb (get modulation-id (b ∷ bs)) LORA || eqb (get modulation-id (b ∷ bs)) FSK)
+abbrev pub otherModulation : List ℕ → Bool
+otherModulation [] = false
+otherModulation (b ∷ bs) = not (eqb (get «modulation_id» (b ∷ bs)) LORA || eqb (get «modulation_id» (b ∷ bs)) FSK)
 
 -- 5. SET_CONFIG's sizes: the modulation and its parameters; FSK's are 16 and as many bytes as sync_word_len says
 abbrev pub configSized : List ℕ → Bool
 configSized [] = false
 configSized (b ∷ bs) =
-    cond (eqb (get modulation-id (b ∷ bs)) LORA) (eqb (length bs) loraSize)
-    (leb fskSize (length bs) && eqb (length bs) (fskSize + get sync-word-len bs))
+    cond (eqb (get «modulation_id» (b ∷ bs)) LORA) (eqb (length bs) loraSize)
+    (leb fskSize (length bs) && eqb (length bs) (fskSize + get «sync_word_len» bs))
 
 -- TX's: the flags, and a packet of 1 to 255 bytes
 abbrev pub txSized : List ℕ → Bool
@@ -79,21 +79,21 @@ good b kind p =
     (cond (eqb kind TX) (leb (get flags p) flagsMax)
     true)
 
--- Why a command draws an ERR: the first that applies of steps 2 to 7, or none. `bare` says whether the device is UNCONFIGURED, and n how many TX are open.
-abbrev pub objects : Board → Bool → ℕ → ℕ → List ℕ → Option ℕ
-objects b bare n kind p =
+-- Why a command draws an ERR: the first that applies of steps 2 to 7, or none. `noConfig` says whether the device is UNCONFIGURED, and n how many TX are open.
+abbrev pub errorFor : Board → Bool → ℕ → ℕ → List ℕ → Option ℕ
+errorFor b noConfig n kind p =
     cond (not (isCommand kind)) (some EUNKNOWN-CMD)
-    (cond (bare && needsConfig kind) (some ENOTCONFIGURED)
-    (cond (eqb kind SET-CONFIG && strange p) (some EMODULATION)
+    (cond (noConfig && needsConfig kind) (some ENOTCONFIGURED)
+    (cond (eqb kind SET-CONFIG && otherModulation p) (some EMODULATION)
     (cond (not (sized kind p)) (some ELENGTH)
     (cond (not (good b kind p)) (some EPARAM)
     (cond (eqb kind TX && leb txMax n) (some EBUSY)
     none)))))
 
-unfoldable pub objection : Board → State → ℕ → List ℕ → Option ℕ
-objection b s kind p = objects b (unconfigured (s .config)) (open# (s .air)) kind p
+unfoldable pub errorOf : Board → State → ℕ → List ℕ → Option ℕ
+errorOf b s kind p = errorFor b (unconfigured (s .config)) (open# (s .air)) kind p
 
--- ---- what a command without objection brings
+-- ---- what a command without an error brings
 
 abbrev pub settingOf : ℕ → List ℕ → Setting
 settingOf t p = record { tag = t; config = record { modulation = configOf p; word = syncWord p } }

@@ -10,7 +10,7 @@ use Rattle.rx.specs.declared.Rx.{Rx}
 use Rattle.answer.specs.Answers.{answerKind, answerBytes}
 use Rattle.answer.specs.declared.Answer.{Answer}
 use Rattle.answer.specs.declared.Answer.the-variants as A
-use Rattle.board.specs.Board.{Board, infoOf, uidsOf}
+use Rattle.board.specs.Board.{Board, boardInfo, uidsOf}
 use Rattle.device.specs.State.{Setting, Packet}
 
 -- ---- messages
@@ -28,7 +28,7 @@ abbrev pub ok : ℕ → Message
 ok t = message t A.Ok []
 
 abbrev pub okInfo : Board → ℕ → Message
-okInfo b t = message t (A.Info (infoOf b)) (uidsOf b)
+okInfo b t = message t (A.Info (boardInfo b)) (uidsOf b)
 
 -- result 0, owner 1 and the parameters
 abbrev pub okConfigured : Setting → Message
@@ -56,9 +56,9 @@ rxValue p n =
     record {
       rssi = p .rssi;
       snr = p .snr;
-      «freq_err» = p .freq-err;
-      «timestamp_us» = p .time;
-      «crc_valid» = yes (p .crc-valid);
+      «freq_err» = p .«freq_err»;
+      «timestamp_us» = p .«timestamp_us»;
+      «crc_valid» = yes (p .«crc_valid»);
       «packets_dropped» = n;
       origin = 0;
     }
@@ -71,12 +71,12 @@ rx p n = message 0 (A.Rx (rxValue p n)) (p .bytes)
 abbrev pub payload : Message → List ℕ
 payload m = answerBytes (m .answer) (m .bytes)
 
-unfoldable pub wire : Message → List ℕ
-wire m = B.frame (body (answerKind (m .answer)) (m .tag) (payload m))
+unfoldable pub messageBytes : Message → List ℕ
+messageBytes m = B.frame (body (answerKind (m .answer)) (m .tag) (payload m))
 
-unfoldable pub wires : List Message → List ℕ
-wires [] = []
-wires (m ∷ ms) = wire m ++ wires ms
+unfoldable pub messagesBytes : List Message → List ℕ
+messagesBytes [] = []
+messagesBytes (m ∷ ms) = messageBytes m ++ messagesBytes ms
 
 -- ---- a message as it is seen on the wire: type, tag and payload
 

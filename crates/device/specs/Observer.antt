@@ -12,7 +12,8 @@ use Rattle.kind.specs.Kinds.{SET-CONFIG, TX, RX-START, RX-STOP, OK, ERR, RX}
 use Rattle.modulation.specs.Modulations.{configOf, syncWord}
 use Rattle.command.specs.Commands.{flags, packetOf}
 use Rattle.device.specs.State.{Config, Setting, Tx, Radio, free, listening, onAir, orphan, configuring, Packet, Air, Inbox, air, inbox}
-use Rattle.device.specs.State.{Event, byte, tick, clear, busy, sent, configured, fault, packet, request, disconnect, Order, nothing, standby, configure, transmit, receive}
+use Rattle.device.specs.State.{Event, byte, tick, clear, busy, sent, configured, fault, packet, request}
+use Rattle.device.specs.State.{disconnect, Order, nothing, standby, configure, transmit, receive}
 use Rattle.device.specs.Messages.{Frame}
 use Rattle.device.specs.Reading.{frames, brings}
 use Rattle.device.specs.Frames.{Received, damaged, command}
@@ -117,13 +118,13 @@ configureNoted none a = a
 configureNoted (some c) a = air (configuring c) [] none
 
 -- transmit: the oldest TX that waits is with the radio, which listens first or not
-abbrev pub sends : Bool → ℕ → Radio
-sends true t = listening t
-sends false t = onAir t
+abbrev pub startsAs : Bool → ℕ → Radio
+startsAs true t = listening t
+startsAs false t = onAir t
 
 abbrev pub transmitNoted : Bool → List Tx → Air → Air
 transmitNoted first [] a = a
-transmitNoted first (x ∷ xs) a = air (sends first (x .tag)) xs (a .pending)
+transmitNoted first (x ∷ xs) a = air (startsAs first (x .tag)) xs (a .pending)
 
 abbrev pub orderNoted : Order → Observer → Observer
 orderNoted nothing k = k
@@ -140,9 +141,9 @@ cutAt255 p =
     record {
       rssi = p .rssi;
       snr = p .snr;
-      freq-err = p .freq-err;
-      time = p .time;
-      crc-valid = p .crc-valid && leb (length (p .bytes)) 255;
+      «freq_err» = p .«freq_err»;
+      «timestamp_us» = p .«timestamp_us»;
+      «crc_valid» = p .«crc_valid» && leb (length (p .bytes)) 255;
       bytes = take 255 (p .bytes);
     }
 

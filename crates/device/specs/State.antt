@@ -42,9 +42,9 @@ Radio = RadioOf Setting
 pub record Packet : Type 0 where
   pub rssi : ℤ
   pub snr : ℤ
-  pub freq-err : ℤ
-  pub time : ℕ
-  pub crc-valid : Bool
+  pub «freq_err» : ℤ
+  pub «timestamp_us» : ℕ
+  pub «crc_valid» : Bool
   pub bytes : List ℕ
 
 -- ---- the state
@@ -100,15 +100,15 @@ abbrev pub withInbox : Inbox → State → State
 withInbox i s = state (s .config) (s .link) (s .air) i
 
 -- no session, no run, nothing received: at power-up and after a session's end
-abbrev pub silent : Link
-silent = link false 0 []
+abbrev pub noSession : Link
+noSession = link false 0 []
 
-abbrev pub deaf : Inbox
-deaf = inbox false [] 0
+abbrev pub noReception : Inbox
+noReception = inbox false [] 0
 
 -- at power-up
 abbrev pub powerUp : State
-powerUp = state none silent (air free [] none) deaf
+powerUp = state none noSession (air free [] none) noReception
 
 -- ---- what is asked of it
 

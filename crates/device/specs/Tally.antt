@@ -6,7 +6,8 @@ use mathlib.Core.Bool.{Bool, true, false, cond, not, _&&_, _||_}
 use mathlib.Core.List.{List, [], _∷_, _++_, map}
 use lib.Dec.{eqb}
 use Rattle.kind.specs.Kinds.{SET-CONFIG, TX, OK, ERR, TX-DONE}
-use Rattle.device.specs.State.{Event, byte, tick, clear, busy, sent, configured, fault, packet, request, disconnect, Order, nothing, standby, configure, transmit, receive}
+use Rattle.device.specs.State.{Event, byte, tick, clear, busy, sent, configured, fault, packet, request}
+use Rattle.device.specs.State.{disconnect, Order, nothing, standby, configure, transmit, receive}
 use Rattle.device.specs.Messages.{Frame, frame}
 use Rattle.device.specs.Frames.{Received, damaged, command}
 use Rattle.device.specs.Reading.{frames, brings}
@@ -129,15 +130,15 @@ afterOrder (transmit bs first) t = withTxs (started (t .txs)) t
 afterOrder receive t = t
 
 -- then: nothing is pending after configured, and after a fault that did not order to configure
-abbrev pub settled : Tally → Tally
-settled t = tally (t .run) (t .session) (t .ticks) false (t .txs)
+abbrev pub nothingPending : Tally → Tally
+nothingPending t = tally (t .run) (t .session) (t .ticks) false (t .txs)
 
 abbrev pub unlessConfigure : Order → Tally → Tally
-unlessConfigure nothing t = settled t
-unlessConfigure standby t = settled t
+unlessConfigure nothing t = nothingPending t
+unlessConfigure standby t = nothingPending t
 unlessConfigure (configure c ldro) t = t
-unlessConfigure (transmit bs first) t = settled t
-unlessConfigure receive t = settled t
+unlessConfigure (transmit bs first) t = nothingPending t
+unlessConfigure receive t = nothingPending t
 
 abbrev pub afterSetting : Event → Order → Tally → Tally
 afterSetting (byte n) o t = t
@@ -145,7 +146,7 @@ afterSetting tick o t = t
 afterSetting clear o t = t
 afterSetting busy o t = t
 afterSetting (sent airtime) o t = t
-afterSetting configured o t = settled t
+afterSetting configured o t = nothingPending t
 afterSetting fault o t = unlessConfigure o t
 afterSetting (packet p) o t = t
 afterSetting request o t = t

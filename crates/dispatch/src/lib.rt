@@ -1,13 +1,15 @@
 // A command that was received: judged, and carried out. 01 "A run of bytes becomes a frame", steps 2
 // to 7, and "What each event does".
 ghost use mathlib.Core.Path.{_≡_};
-ghost use Prim.Native.Nat.{_≤_};
+ghost use Prim.Native.Nat.{_≤_, _<_};
 ghost use lib.ListN.{length};
+ghost use Rattle.board.specs.Board.{txMax};
 ghost use Rattle.device.specs.Events.{roomMin};
 ghost use Rattle.device.specs.Events as E;
 ghost use Rattle.control.specs.Control.{Gives, unconfigured};
-ghost use Rattle.intake.specs.Intake.{Rules, open#};
-ghost use Rattle.dispatch.specs.Commands.{turned, atOnce, judged};
+ghost use Rattle.slot.specs.Slots.{keptMax};
+ghost use Rattle.dispatch.specs.Commands.{CommandTaken, open#, onTx, onSet, turned, atOnce, dispatched};
+use board::TX_MAX;
 use control::Air;
 use control::Device;
 use control::Inbox;
@@ -15,6 +17,7 @@ use control::Mode;
 use control::Order;
 use control::Radio;
 use control::Taken;
+use kind::CANCELLED;
 use kind::GET_INFO;
 use kind::OK;
 use kind::RX_START;
@@ -22,9 +25,10 @@ use kind::RX_STOP;
 use kind::SET_CONFIG;
 use kind::TX;
 use slot::COMMANDS;
+use slot::SETTING;
 
-// A frame with a type, a tag and a payload: what draws an ERR does nothing else. A helper of the
-// events: they show that there is room.
+// A frame with a type, a tag and a payload: what draws an ERR does nothing else. Internal: callers
+// prove that there is room.
 pub fn dispatch(
     d: Device,
     kind: u8,
@@ -34,24 +38,91 @@ pub fn dispatch(
     out: &mut [u8],
 ) -> Taken
     requires { ⌜ roomMin ≤ length (now out) ⌝ }
-    ensures { λ r. ⌜ Rules (judged kind tag (now (payload .entry)) (now (commands .entry)) d) (now (out .entry)) r (now (out .exit)) (now (commands .exit)) ⌝ }
+    ensures { λ r. ⌜ CommandTaken (dispatched kind tag (now (payload .entry)) (now (commands .entry)) d)
+        (now (out .entry)) r (now (out .exit)) (now (commands .exit)) ⌝ }
 {
     let mode = d.mode;
     let air = d.air;
-    let bare = is_unconfigured(mode);
+    let unconfigured = is_unconfigured(mode);
     let count = count_open(air);
-    let code = objection::objection(bare, count, kind, payload);
-    if code != objection::NONE {
-        let w = wire::say_err(code, tag, out, 0);
+    let code = validation::error_code(unconfigured, count, kind, payload);
+    if code != validation::NO_ERROR {
+        let w = emit::write_err(code, tag, out, 0);
         return control::done(d, w, Order::Nothing);
     }
     if kind == TX {
-        return intake::tx(d, tag, payload, commands, out);
+        return tx(d, tag, payload, commands, out);
     }
     if kind == SET_CONFIG {
-        return intake::set_config(d, tag, payload, commands, out);
+        return set_config(d, tag, payload, commands, out);
     }
     at_once(d, kind, tag, out)
+}
+
+// A TX that is taken.
+fn tx(d: Device, tag: u16, payload: &[u8], commands: &mut [u8; COMMANDS], out: &mut [u8]) -> Taken
+    requires { ⌜ roomMin ≤ length (now out) ⌝ }
+    requires { ⌜ (1 ≤ length (now payload)) × (length (now payload) ≤ keptMax) ⌝ }
+    requires { ⌜ open# (d .air) < txMax ⌝ }
+    ensures { λ r. ⌜ CommandTaken (onTx tag (now (payload .entry)) (now (commands .entry)) d) (now (out .entry)) r (now (out .exit)) (now (commands .exit)) ⌝ }
+{
+    let was = d.air;
+    let radio = was.radio;
+    let waiting = was.waiting;
+    let slot = (was.first as usize + waiting as usize) % TX_MAX;
+    slot::keep(slot, tag, payload, commands);
+    let w = emit::write_ok(tag, out, 0);
+    if control::is_free(radio) {
+        return queue::start(d, slot, waiting, commands, w);
+    }
+    let more = waiting + 1;
+    let air = Air {
+        radio,
+        pending: was.pending,
+        first: was.first,
+        waiting: more,
+    };
+    let e = control::with_air(d, air);
+    control::done(e, w, Order::Nothing)
+}
+
+// A SET_CONFIG that is taken. Its OK comes when the radio is configured.
+fn set_config(
+    d: Device,
+    tag: u16,
+    payload: &[u8],
+    commands: &mut [u8; COMMANDS],
+    out: &mut [u8],
+) -> Taken
+    requires { ⌜ roomMin ≤ length (now out) ⌝ }
+    requires { ⌜ (1 ≤ length (now payload)) × (length (now payload) ≤ keptMax) ⌝ }
+    ensures { λ r. ⌜ CommandTaken (onSet tag (now (payload .entry)) (now (commands .entry)) d) (now (out .entry)) r (now (out .exit)) (now (commands .exit)) ⌝ }
+{
+    slot::keep(SETTING, tag, payload, commands);
+    let held = d.inbox;
+    let emptied = control::clear_reception(held);
+    let e = control::with_inbox(d, emptied);
+    let was = d.air;
+    let radio = was.radio;
+    match radio {
+        Radio::Listening(t) => {
+            let w = emit::write_tx_done(CANCELLED, 0, t, out, 0);
+            return queue::configure(e, commands, out, w);
+        }
+        Radio::OnAir(_) | Radio::Orphan => {
+            let air = Air {
+                radio,
+                pending: true,
+                first: was.first,
+                waiting: was.waiting,
+            };
+            let f = control::with_air(e, air);
+            return control::done(f, 0, Order::Nothing);
+        }
+        _ => {
+            return queue::configure(e, commands, out, 0);
+        }
+    }
 }
 
 // A command that is answered at once.
@@ -67,10 +138,10 @@ fn at_once(d: Device, kind: u8, tag: u16, out: &mut [u8]) -> Taken
     }
     if kind == GET_INFO {
         let info = board::info();
-        let w = wire::say(OK, tag, &info, out, 0);
+        let w = emit::write(OK, tag, &info, out, 0);
         return control::done(d, w, Order::Nothing);
     }
-    let w = wire::say_ok(tag, out, 0);
+    let w = emit::write_ok(tag, out, 0);
     control::done(d, w, Order::Nothing)
 }
 
@@ -108,7 +179,7 @@ fn turn(d: Device, on: bool, tag: u16, out: &mut [u8]) -> Taken
     let was = d.inbox;
     let air = d.air;
     let radio = air.radio;
-    let w = wire::say_ok(tag, out, 0);
+    let w = emit::write_ok(tag, out, 0);
     let inbox = Inbox {
         receiving: on,
         first: was.first,

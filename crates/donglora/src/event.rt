@@ -1,18 +1,17 @@
-// Power-up and the ten events, for C: each is the function of its name in crate dongle or radio, with
+// Power-up and the ten events, for C: each is the function of its name in crate ffi_device or ffi_radio, with
 // the same contract.
 ghost use mathlib.Core.Path.{_≡_};
-ghost use Rattle.outcome.specs.Outcomes.{clearOut, busyOut, sentOut, faultOut};
-ghost use Rattle.configured.specs.Configured.{configuredOut};
+ghost use Rattle.outcome.specs.Outcomes.{clearOut, busyOut, sentOut, faultOut, configuredOut};
 ghost use Rattle.session.specs.Session.{tickOut, disconnectOut};
-ghost use Rattle.inbox.specs.Packets.{packetOf};
-ghost use Rattle.dongle.specs.Calls.{first, stateCall, byteCall, outcomeCall, packetCall, requestCall};
-ghost use Rattle.radio.specs.Heard.{heardIn};
+ghost use Rattle.inbox.specs.Packets.{receivedPacket};
+ghost use Rattle.ffi_device.specs.Calls.{firstDongle, stateCall, byteCall, outcomeCall, packetCall, requestCall};
+ghost use Rattle.ffi_radio.specs.PacketStatus.{statusIn};
+use ffi_radio::PacketReport;
 use inbox::PACKETS;
 use link::RUN_MAX;
-use radio::HeardReport;
+use packed::ANSWER;
+use packed::CONTROL;
 use slot::COMMANDS;
-use words::ANSWER;
-use words::CONTROL;
 
 // Power-up: the first state, and memories filled with zero.
 #[no_mangle]
@@ -22,9 +21,10 @@ pub extern "C" fn donglora_power_up(
     commands: &mut [u8; COMMANDS],
     packets: &mut [u8; PACKETS],
 )
-    ensures { λ _. ⌜ first ≡ record { control = now (control .exit); run = now (run .exit); commands = now (commands .exit); packets = now (packets .exit) } ⌝ }
+    ensures { λ _. ⌜ firstDongle
+        ≡ record { control = now (control .exit); run = now (run .exit); commands = now (commands .exit); packets = now (packets .exit) } ⌝ }
 {
-    dongle::power_up(control, run, commands, packets);
+    ffi_device::power_up(control, run, commands, packets);
 }
 
 // A byte from the host.
@@ -46,7 +46,7 @@ pub extern "C" fn donglora_byte(
           answer = now (answer .exit);
         } ⌝ }
 {
-    dongle::byte(control, b, run, commands, out, answer);
+    ffi_device::byte(control, b, run, commands, out, answer);
 }
 
 // A millisecond has passed.
@@ -59,7 +59,7 @@ pub extern "C" fn donglora_tick(
     ensures { λ _. ⌜ stateCall tickOut (record { control = now (control .entry); room = room })
         ≡ record { control = now (control .exit); answer = now (answer .exit) } ⌝ }
 {
-    dongle::tick(control, room, answer);
+    ffi_device::tick(control, room, answer);
 }
 
 // The host is gone.
@@ -72,7 +72,7 @@ pub extern "C" fn donglora_disconnect(
     ensures { λ _. ⌜ stateCall disconnectOut (record { control = now (control .entry); room = room })
         ≡ record { control = now (control .exit); answer = now (answer .exit) } ⌝ }
 {
-    dongle::disconnect(control, room, answer);
+    ffi_device::disconnect(control, room, answer);
 }
 
 // The channel is clear.
@@ -85,7 +85,7 @@ pub extern "C" fn donglora_clear(
     ensures { λ _. ⌜ stateCall clearOut (record { control = now (control .entry); room = room })
         ≡ record { control = now (control .exit); answer = now (answer .exit) } ⌝ }
 {
-    radio::clear(control, room, answer);
+    ffi_radio::clear(control, room, answer);
 }
 
 // The channel is busy.
@@ -99,7 +99,7 @@ pub extern "C" fn donglora_busy(
     ensures { λ _. ⌜ outcomeCall busyOut (record { control = now (control .entry); commands = now (commands .entry); out = now (out .entry) })
         ≡ record { control = now (control .exit); out = now (out .exit); answer = now (answer .exit) } ⌝ }
 {
-    radio::busy(control, commands, out, answer);
+    ffi_radio::busy(control, commands, out, answer);
 }
 
 // The TX has been sent, with its airtime in us.
@@ -114,7 +114,7 @@ pub extern "C" fn donglora_sent(
     ensures { λ _. ⌜ outcomeCall (sentOut airtime) (record { control = now (control .entry); commands = now (commands .entry); out = now (out .entry) })
         ≡ record { control = now (control .exit); out = now (out .exit); answer = now (answer .exit) } ⌝ }
 {
-    radio::sent(control, airtime, commands, out, answer);
+    ffi_radio::sent(control, airtime, commands, out, answer);
 }
 
 // The radio is configured.
@@ -128,7 +128,7 @@ pub extern "C" fn donglora_configured(
     ensures { λ _. ⌜ outcomeCall configuredOut (record { control = now (control .entry); commands = now (commands .entry); out = now (out .entry) })
         ≡ record { control = now (control .exit); out = now (out .exit); answer = now (answer .exit) } ⌝ }
 {
-    radio::configured(control, commands, out, answer);
+    ffi_radio::configured(control, commands, out, answer);
 }
 
 // The radio has failed.
@@ -142,24 +142,24 @@ pub extern "C" fn donglora_fault(
     ensures { λ _. ⌜ outcomeCall faultOut (record { control = now (control .entry); commands = now (commands .entry); out = now (out .entry) })
         ≡ record { control = now (control .exit); out = now (out .exit); answer = now (answer .exit) } ⌝ }
 {
-    radio::fault(control, commands, out, answer);
+    ffi_radio::fault(control, commands, out, answer);
 }
 
 // A packet was received.
 #[no_mangle]
 pub extern "C" fn donglora_packet(
     control: &mut [u64; CONTROL],
-    heard: HeardReport,
+    heard: PacketReport,
     bytes: &[u8],
     packets: &mut [u8; PACKETS],
     room: usize,
     answer: &mut [u64; ANSWER],
 )
-    ensures { λ _. ⌜ packetCall (packetOf (heardIn heard) (now (bytes .entry)))
+    ensures { λ _. ⌜ packetCall (receivedPacket (statusIn heard) (now (bytes .entry)))
         (record { control = now (control .entry); packets = now (packets .entry); room = room })
         ≡ record { control = now (control .exit); packets = now (packets .exit); answer = now (answer .exit) } ⌝ }
 {
-    radio::packet(control, heard, bytes, packets, room, answer);
+    ffi_radio::packet(control, heard, bytes, packets, room, answer);
 }
 
 // The host can take a packet.
@@ -173,5 +173,5 @@ pub extern "C" fn donglora_request(
     ensures { λ _. ⌜ requestCall (record { control = now (control .entry); packets = now (packets .entry); out = now (out .entry) })
         ≡ record { control = now (control .exit); packets = now (packets .exit); out = now (out .exit); answer = now (answer .exit) } ⌝ }
 {
-    dongle::request(control, packets, out, answer);
+    ffi_device::request(control, packets, out, answer);
 }

@@ -3,9 +3,9 @@
 use mathlib.Core.Path.{_≡_, refl}
 use mathlib.Core.List.{[], _∷_}
 use lib.ListN.{replicate}
-use Rattle.numbers.specs.declared.Refusal.the-variants as R
+use Rattle.status.specs.declared.Refusal.the-variants as R
 use Rattle.crc16.specs.Crc.{bit, bits, byte, crcFrom, crcOf}
-use Rattle.cobs.specs.Encoding.{cut, wire, encoded}
+use Rattle.cobs.specs.Encoding.{grouped, groupsBytes, encoded}
 use Rattle.cobs.specs.Decoding.{hasZero, whole, broken, parts, groups, joined, decoded}
 use Rattle.scalar.specs.Scalars.{le, number}
 use Rattle.frame.specs.Body.{covered, body, frame}
@@ -19,12 +19,12 @@ unfolding body covered le crcOf crcFrom byte bits bit
 ping-body = refl
 
 pub ping-frame : frame (body 0x01 0x0001 []) ≡ 0x03 ∷ 0x01 ∷ 0x01 ∷ 0x03 ∷ 0x9D ∷ 0xC8 ∷ 0x00 ∷ []
-unfolding frame encoded cut wire body covered le crcOf crcFrom byte bits bit
+unfolding frame encoded grouped groupsBytes body covered le crcOf crcFrom byte bits bit
 ping-frame = refl
 
 -- OK 0033, with a zero in its check value
 pub ok-frame : frame (body 0x80 0x0033 []) ≡ 0x03 ∷ 0x80 ∷ 0x33 ∷ 0x01 ∷ 0x02 ∷ 0xA7 ∷ 0x00 ∷ []
-unfolding frame encoded cut wire body covered le crcOf crcFrom byte bits bit
+unfolding frame encoded grouped groupsBytes body covered le crcOf crcFrom byte bits bit
 ok-frame = refl
 
 -- PING 0001 is read where the run has room, though its body has one byte less

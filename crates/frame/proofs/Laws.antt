@@ -12,7 +12,7 @@ use borrow.Author.Tests.{le-ltb, ltb-false, eq-eqb, eqb-true}
 use lib.Dec.{ltb, eqb}
 use lib.ListN.{length, take, drop, replicate, length-append, length-drop}
 use lib.Seq.{take-append-seam, drop-append-seam, take-append-le, drop-append-le}
-use Rattle.numbers.specs.declared.Refusal.{Refusal}
+use Rattle.status.specs.declared.Refusal.{Refusal}
 use Rattle.buffer.specs.Lay.{lay}
 use Rattle.crc16.specs.Crc.{crcOf}
 use Rattle.crc16.proofs.Laws.{crc-below}

@@ -6,9 +6,9 @@ use mathlib.Core.Bool.{cond}
 use mathlib.Core.List.{List}
 use lib.Dec.{ltb, eqb}
 use lib.ListN.{length}
-use Rattle.numbers.specs.Refusals.{refusalNumber}
-use Rattle.numbers.specs.Came.{Came, took, refusedWith}
-use Rattle.numbers.specs.declared.Refusal.the-variants as R
+use Rattle.status.specs.Refusals.{refusalNumber}
+use Rattle.status.specs.Result.{Result, took, refusedWith}
+use Rattle.status.specs.declared.Refusal.the-variants as R
 use Rattle.buffer.specs.Lay.{lay}
 use Rattle.crc16.specs.Crc.{crcOf}
 use Rattle.cobs.specs.Decoding.{broken, decoded}
@@ -40,9 +40,9 @@ pub record Head : Type 0 where
   pub len : ℕ
 
 -- what comes back: 01's number, and the head of the body
-abbrev pub openedSays : Opened → Came Head
-openedSays (O.Body kind tag n) = took record { kind = kind; tag = tag; len = n }
-openedSays (O.Refused r) = refusedWith (refusalNumber r)
+abbrev pub openedResult : Opened → Result Head
+openedResult (O.Body kind tag n) = took record { kind = kind; tag = tag; len = n }
+openedResult (O.Refused r) = refusedWith (refusalNumber r)
 
 -- The lent memory d after an answer: the body from its start on, with the bytes past it as they were. A refusal leaves all of it.
 abbrev pub opens : Opened → List ℕ → List ℕ → List ℕ

@@ -6,9 +6,9 @@ use mathlib.Core.Bool.{cond}
 use mathlib.Core.List.{List}
 use lib.Dec.{ltb}
 use lib.ListN.{length}
-use Rattle.numbers.specs.Refusals.{refusalNumber}
-use Rattle.numbers.specs.Came.{Came, took, refusedWith}
-use Rattle.numbers.specs.declared.Refusal.the-variants as R
+use Rattle.status.specs.Refusals.{refusalNumber}
+use Rattle.status.specs.Result.{Result, took, refusedWith}
+use Rattle.status.specs.declared.Refusal.the-variants as R
 use Rattle.buffer.specs.Lay.{lay}
 use Rattle.cobs.specs.Encoding.{worst}
 use Rattle.cobs.specs.Answers.{bodyMax}
@@ -32,9 +32,9 @@ frameAnswer b room =
     (W.Done (length (frame b)))))
 
 -- what comes back: 01's number, and how many bytes were written
-abbrev pub writtenSays : Written → Came ℕ
-writtenSays (W.Done n) = took n
-writtenSays (W.Refused r) = refusedWith (refusalNumber r)
+abbrev pub writtenResult : Written → Result ℕ
+writtenResult (W.Done n) = took n
+writtenResult (W.Refused r) = refusedWith (refusalNumber r)
 
 -- The destination d after an answer, where `bs` was to be written: from its start on, with the bytes past that as they were. A refusal leaves all of it.
 abbrev pub left : Written → List ℕ → List ℕ → List ℕ

@@ -9,7 +9,7 @@ use borrow.Author.Tests.{lt-ltb, le-ltb, le-leb, lt-leb}
 use lib.Dec.{leb}
 use lib.ListN.{length, take, drop, set, getD, length-take, List·getD-append}
 use lib.Seq.{take-all, getD-take}
-use Rattle.numbers.specs.Numbers.{TAKEN, PLACE, ROOM}
+use Rattle.status.specs.Numbers.{TAKEN, PLACE, ROOM}
 use Rattle.buffer.specs.Lay.{lay}
 use Rattle.buffer.proofs.Laws.{lay-lay, lay-next}
 use Rattle.scalar.specs.Scalars.{le}
@@ -20,15 +20,16 @@ use Rattle.board.specs.Board.{ringMax}
 use Rattle.device.specs.State.{Packet}
 use Rattle.device.specs.Messages.{frame, rxValue}
 use Rattle.device.specs.Events.{cut, dropsMax, roomMin}
-use Rattle.wire.specs.Wire.{Says}
-use Rattle.wire.proofs.Laws.{sent-one}
+use Rattle.emit.specs.Emitting.{Writes}
+use Rattle.emit.proofs.Laws.{sent-one}
 use Rattle.control.specs.declared.Device.{Device}
 use Rattle.control.specs.declared.Order.the-variants.{Nothing}
-use Rattle.control.specs.declared.Answer.{Answer}
+use Rattle.control.specs.declared.Reply.{Reply}
 use Rattle.control.specs.Control.{inbox, withInbox, free?, does, taken, within}
-use Rattle.control.proofs.Laws.{answered, tells-refusal, tells-quiet, refusal, silently, says-all}
-use Rattle.inbox.specs.declared.Heard.{Heard}
-use Rattle.inbox.specs.Packets.{heldSize, packetsSize, heldBytes, kept, counted, payloadAt, takes, packetOf, more, onPacket, onRequest, packetOut, requestOut, Keeps, Delivers}
+use Rattle.control.proofs.Laws.{answered, returns-refusal, returns-quiet, refusal, silently, writes-all}
+use Rattle.inbox.specs.declared.PacketStatus.{PacketStatus}
+use Rattle.inbox.specs.Packets.{heldSize, packetsSize, heldBytes, packetKept, counted, rxPayloadAt, takes, receivedPacket}
+use Rattle.inbox.specs.Packets.{more, onPacket, onRequest, packetOut, requestOut, PacketTaken, RequestTaken}
 
 -- ---- what is written to a slot
 
@@ -53,25 +54,26 @@ most-drops n h = omega arith
 
 -- ---- a packet that is cut
 
--- what was heard, with another crc_valid
-abbrev heard : Heard → Bool → Heard
-heard h b = record { rssi = h .rssi; snr = h .snr; freq = h .freq; time = h .time; crc = b }
+-- a status with another crc_valid
+abbrev withCrc : PacketStatus → Bool → PacketStatus
+withCrc h b = record { rssi = h .rssi; snr = h .snr; «freq_err» = h .«freq_err»; «timestamp_us» = h .«timestamp_us»; «crc_valid» = b }
 
-module _ (m : List ℕ) (k : ℕ) (h : Heard) (bs : List ℕ) where
+module _ (m : List ℕ) (k : ℕ) (h : PacketStatus) (bs : List ℕ) where
   abbrev laid : Bool → List ℕ → List ℕ
-  laid b cs = lay (k * heldSize) (heldBytes (packetOf (heard h b) cs)) m
+  laid b cs = lay (k * heldSize) (heldBytes (receivedPacket (withCrc h b) cs)) m
 
   -- the packet's slot, where it is not cut, and where it is
-  pub keep-whole : length bs ≤ 255 → lay (k * heldSize) (heldBytes (packetOf h bs)) m ≡ kept m k (cut (packetOf h bs))
-  unfolding kept
+  pub keep-whole : length bs ≤ 255 → lay (k * heldSize) (heldBytes (receivedPacket h bs)) m ≡ packetKept m k (cut (receivedPacket h bs))
+  unfolding packetKept
   keep-whole small =
-      let e : (h .crc && leb (length bs) 255) ≡ h .crc = rw (le-leb (length bs) 255 small) (and-true (h .crc)) in
+      let e : (h .«crc_valid» && leb (length bs) 255) ≡ h .«crc_valid» = rw (le-leb (length bs) 255 small) (and-true (h .«crc_valid»)) in
       sym (ap₂ laid e (take-all 255 bs small))
 
-  pub keep-cut : 255 < length bs → lay (k * heldSize) (heldBytes (packetOf (heard h false) (take 255 bs))) m ≡ kept m k (cut (packetOf h bs))
-  unfolding kept
+  pub keep-cut : 255 < length bs
+      → lay (k * heldSize) (heldBytes (receivedPacket (withCrc h false) (take 255 bs))) m ≡ packetKept m k (cut (receivedPacket h bs))
+  unfolding packetKept
   keep-cut long =
-      let e : (h .crc && leb (length bs) 255) ≡ false = rw (lt-leb (length bs) 255 long) (and-false (h .crc)) in
+      let e : (h .«crc_valid» && leb (length bs) 255) ≡ false = rw (lt-leb (length bs) 255 long) (and-false (h .«crc_valid»)) in
       sym (ap (λ (b : Bool). laid b (take 255 bs)) e)
 
 -- ---- the drop count in a slot
@@ -94,7 +96,7 @@ module _ (m : List ℕ) (k n : ℕ) (slot : k < ringMax) (whole : length m ≡ p
 
   -- the payload is the part from after it to its end
   pub payload-part : take (k * heldSize + 1 + 20 + getD m (k * heldSize) 0 - (k * heldSize + 1)) (drop (k * heldSize + 1) (counted m k n))
-      ≡ payloadAt (counted m k n) k
+      ≡ rxPayloadAt (counted m k n) k
   payload-part =
       let e : k * heldSize + 1 + 20 + getD m (k * heldSize) 0 - (k * heldSize + 1) ≡ 20 + getD m (k * heldSize) 0 = omega arith in
       rw (e, length-stays)
@@ -106,27 +108,27 @@ abbrev hears : Device → Bool
 hears d = d .inbox .receiving && free? (d .air .radio)
 
 module _ (room : ℕ) (p : Packet) (m : List ℕ) (d : Device) where
-  pub no-room : {r : Answer} → room < roomMin → r ≡ answered d ROOM 0 Nothing → Keeps (packetOut room p m d) r m
+  pub no-room : {r : Reply} → room < roomMin → r ≡ answered d ROOM 0 Nothing → PacketTaken (packetOut room p m d) r m
   unfolding packetOut within
-  no-room h e = rw (lt-ltb room roomMin h) record { tells = tells-refusal ROOM d e; packets = refl }
+  no-room h e = rw (lt-ltb room roomMin h) record { returns = returns-refusal ROOM d e; packets = refl }
 
   module _ (wide : roomMin ≤ room) where
     done-by : (b : Bool) → hears d ≡ b → packetOut room p m d ≡ onPacket b p m d
     unfolding packetOut within
     done-by b t = simp (le-ltb room roomMin wide, t)
 
-    pub no-place : {r : Answer} → hears d ≡ false → r ≡ answered d PLACE 0 Nothing → Keeps (packetOut room p m d) r m
-    no-place t e = rw (done-by false t) record { tells = tells-refusal PLACE d e; packets = refl }
+    pub no-place : {r : Reply} → hears d ≡ false → r ≡ answered d PLACE 0 Nothing → PacketTaken (packetOut room p m d) r m
+    no-place t e = rw (done-by false t) record { returns = returns-refusal PLACE d e; packets = refl }
 
-    pub placed : {r : Answer} {m' : List ℕ} → hears d ≡ true
+    pub placed : {r : Reply} {m' : List ℕ} → hears d ≡ true
         → r ≡ answered (withInbox d (more (d .inbox))) TAKEN 0 Nothing
-        → m' ≡ kept m ((d .inbox .first + d .inbox .held) % ringMax) (cut p) → Keeps (packetOut room p m d) r m'
-    placed t e f = rw (done-by true t) record { tells = tells-quiet (withInbox d (more (d .inbox))) Nothing e; packets = f }
+        → m' ≡ packetKept m ((d .inbox .first + d .inbox .held) % ringMax) (cut p) → PacketTaken (packetOut room p m d) r m'
+    placed t e f = rw (done-by true t) record { returns = returns-quiet (withInbox d (more (d .inbox))) Nothing e; packets = f }
 
 -- ---- a request, in each case
 
 module _ (o m : List ℕ) (d : Device) where
-  pub no-room-out : {r : Answer} → length o < roomMin → r ≡ answered d ROOM 0 Nothing → Delivers (requestOut (length o) m d) o r o m
+  pub no-room-out : {r : Reply} → length o < roomMin → r ≡ answered d ROOM 0 Nothing → RequestTaken (requestOut (length o) m d) o r o m
   unfolding requestOut within
   no-room-out h e = rw (lt-ltb (length o) roomMin h) record { answers = refusal ROOM d o e; packets = refl }
 
@@ -135,8 +137,8 @@ module _ (o m : List ℕ) (d : Device) where
     unfolding requestOut within
     done-of n t = simp (le-ltb (length o) roomMin wide, t)
 
-    pub none-held : {r : Answer} → d .inbox .held ≡ 0 → r ≡ answered d TAKEN 0 Nothing → Delivers (requestOut (length o) m d) o r o m
-    none-held t e = rw (done-of 0 t) record { answers = silently (taken (does d [] Nothing)) o refl (tells-quiet d Nothing e); packets = refl }
+    pub none-held : {r : Reply} → d .inbox .held ≡ 0 → r ≡ answered d TAKEN 0 Nothing → RequestTaken (requestOut (length o) m d) o r o m
+    none-held t e = rw (done-of 0 t) record { answers = silently (taken (does d [] Nothing)) o refl (returns-quiet d Nothing e); packets = refl }
 
     abbrev slot : ℕ
     slot = d .inbox .first % ringMax
@@ -147,7 +149,7 @@ module _ (o m : List ℕ) (d : Device) where
     abbrev next : ℕ → Device
     next n = withInbox d (inbox (d .inbox .receiving) ((slot + 1) % ringMax) n 0)
 
-    pub delivered : {r : Answer} {o' m' : List ℕ} {w : ℕ} → (n : ℕ) → d .inbox .held ≡ suc n → m' ≡ after
-        → Says (frame RX 0 (payloadAt after slot)) o 0 w o' → r ≡ answered (next n) TAKEN w Nothing
-        → Delivers (requestOut (length o) m d) o r o' m'
-    delivered n t f s e = rw (done-of (suc n) t) record { answers = says-all (next n) Nothing (sent-one s) e; packets = f }
+    pub delivered : {r : Reply} {o' m' : List ℕ} {w : ℕ} → (n : ℕ) → d .inbox .held ≡ suc n → m' ≡ after
+        → Writes (frame RX 0 (rxPayloadAt after slot)) o 0 w o' → r ≡ answered (next n) TAKEN w Nothing
+        → RequestTaken (requestOut (length o) m d) o r o' m'
+    delivered n t f s e = rw (done-of (suc n) t) record { answers = writes-all (next n) Nothing (sent-one s) e; packets = f }

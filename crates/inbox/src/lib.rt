@@ -2,28 +2,29 @@
 ghost use mathlib.Core.Path.{_≡_};
 ghost use Prim.Native.Nat.{_+_, _≤_, _<_};
 ghost use mathlib.Core.List.{[]};
-ghost use lib.ListN.{length, replicate};
+ghost use lib.ListN.{length};
 ghost use Rattle.buffer.specs.Lay.{lay};
 ghost use Rattle.kind.specs.Kinds as K;
 ghost use Rattle.device.specs.Messages.{frame, rxValue};
 ghost use Rattle.device.specs.Messages as M;
 ghost use Rattle.board.specs.Board.{ringMax};
 ghost use Rattle.device.specs.Events.{cut, roomMin};
-ghost use Rattle.wire.specs.Wire.{Says};
-ghost use Rattle.inbox.specs.Packets.{heldSize, packetsSize, heldBytes, kept, counted, payloadAt, packetOf, more, packetOut, requestOut, Keeps, Delivers};
+ghost use Rattle.emit.specs.Emitting.{Writes};
+ghost use Rattle.inbox.specs.Packets.{heldSize, packetsSize, heldBytes, packetKept, counted, rxPayloadAt, receivedPacket, more, packetOut, requestOut};
+ghost use Rattle.inbox.specs.Packets.{PacketTaken, RequestTaken};
 use board::RING_MAX;
-use control::Answer;
 use control::Device;
 use control::Inbox;
 use control::Order;
 use control::ROOM_MIN;
+use control::Reply;
 use kind::PACKET_MAX;
 use kind::RX;
-use numbers::PLACE;
-use numbers::ROOM;
 use rx::PACKETS_DROPPED;
 use rx::RX_SIZE;
 use rx::Rx;
+use status::PLACE;
+use status::ROOM;
 
 // How many packets are held, as a byte.
 const RING: u8 = RING_MAX as u8;
@@ -34,27 +35,26 @@ pub const PACKETS: usize = RING_MAX * HELD_SIZE;
 // The highest drop count.
 const DROPS_MAX: u16 = 65535;
 
-// What the radio has heard of a packet beside its bytes: RX's values, without those that the device
+// The status of a received packet, beside its bytes: RX's values, without those that the device
 // adds.
-pub struct Heard {
+pub struct PacketStatus {
     pub rssi: i16,
     pub snr: i16,
-    pub freq: i32,
-    pub time: u64,
-    pub crc: bool,
-}
-
-// The memory of packets at power-up.
-pub fn empty_packets() -> [u8; PACKETS]
-    ensures { λ r. ⌜ r ≡ replicate packetsSize 0 ⌝ }
-{
-    [0; PACKETS]
+    pub freq_err: i32,
+    pub timestamp_us: u64,
+    pub crc_valid: bool,
 }
 
 // A packet was received: its bytes go into the ring. It writes nothing, and asks only for the room
 // that an event's output must have.
-pub fn packet(d: Device, h: Heard, bytes: &[u8], packets: &mut [u8; PACKETS], room: usize) -> Answer
-    ensures { λ r. ⌜ Keeps (packetOut room (packetOf h (now (bytes .entry))) (now (packets .entry)) d) r (now (packets .exit)) ⌝ }
+pub fn packet(
+    d: Device,
+    h: PacketStatus,
+    bytes: &[u8],
+    packets: &mut [u8; PACKETS],
+    room: usize,
+) -> Reply
+    ensures { λ r. ⌜ PacketTaken (packetOut room (receivedPacket h (now (bytes .entry))) (now (packets .entry)) d) r (now (packets .exit)) ⌝ }
 {
     if room < ROOM_MIN {
         return control::refuse(d, ROOM);
@@ -102,14 +102,14 @@ fn more(i: Inbox) -> Inbox
 }
 
 // Puts a packet into a slot; one over 255 bytes is cut.
-fn keep(slot: usize, h: Heard, bytes: &[u8], packets: &mut [u8; PACKETS])
+fn keep(slot: usize, h: PacketStatus, bytes: &[u8], packets: &mut [u8; PACKETS])
     requires { ⌜ slot < ringMax ⌝ }
-    ensures { λ _. ⌜ now (packets .exit) ≡ kept (now (packets .entry)) slot (cut (packetOf h (now (bytes .entry)))) ⌝ }
+    ensures { λ _. ⌜ now (packets .exit) ≡ packetKept (now (packets .entry)) slot (cut (receivedPacket h (now (bytes .entry)))) ⌝ }
 {
     let at = slot * HELD_SIZE;
     if PACKET_MAX < bytes.len() {
         let mut wrong = h;
-        wrong.crc = false;
+        wrong.crc_valid = false;
         put(at, wrong, &bytes[..PACKET_MAX], packets);
         return;
     }
@@ -127,25 +127,25 @@ fn yes(b: bool) -> u8
 }
 
 // RX's values of what was heard, without a drop count.
-fn fields_of(h: Heard) -> Rx
-    ensures { λ r. ⌜ r ≡ rxValue (packetOf h []) 0 ⌝ }
+fn fields_of(h: PacketStatus) -> Rx
+    ensures { λ r. ⌜ r ≡ rxValue (receivedPacket h []) 0 ⌝ }
 {
     Rx {
         rssi: h.rssi,
         snr: h.snr,
-        freq_err: h.freq,
-        timestamp_us: h.time,
-        crc_valid: yes(h.crc),
+        freq_err: h.freq_err,
+        timestamp_us: h.timestamp_us,
+        crc_valid: yes(h.crc_valid),
         packets_dropped: 0,
         origin: 0,
     }
 }
 
 // Writes a packet to memory, from index at on.
-fn put(at: usize, h: Heard, bytes: &[u8], memory: &mut [u8])
+fn put(at: usize, h: PacketStatus, bytes: &[u8], memory: &mut [u8])
     requires { ⌜ length (now bytes) ≤ K.packetMax ⌝ }
     requires { ⌜ at + heldSize ≤ length (now memory) ⌝ }
-    ensures { λ _. ⌜ now (memory .exit) ≡ lay at (heldBytes (packetOf h (now (bytes .entry)))) (now (memory .entry)) ⌝ }
+    ensures { λ _. ⌜ now (memory .exit) ≡ lay at (heldBytes (receivedPacket h (now (bytes .entry)))) (now (memory .entry)) ⌝ }
 {
     let fields = rx::rx_bytes(fields_of(h));
     memory[at] = bytes.len() as u8;
@@ -154,8 +154,9 @@ fn put(at: usize, h: Heard, bytes: &[u8], memory: &mut [u8])
 }
 
 // The host asks for a packet: the oldest is delivered with the drop count.
-pub fn request(d: Device, packets: &mut [u8; PACKETS], out: &mut [u8]) -> Answer
-    ensures { λ r. ⌜ Delivers (requestOut (length (now (out .entry))) (now (packets .entry)) d) (now (out .entry)) r (now (out .exit)) (now (packets .exit)) ⌝ }
+pub fn request(d: Device, packets: &mut [u8; PACKETS], out: &mut [u8]) -> Reply
+    ensures { λ r. ⌜ RequestTaken (requestOut (length (now (out .entry))) (now (packets .entry)) d)
+        (now (out .entry)) r (now (out .exit)) (now (packets .exit)) ⌝ }
 {
     if out.len() < ROOM_MIN {
         return control::refuse(d, ROOM);
@@ -184,12 +185,12 @@ fn deliver(slot: usize, drops: u16, packets: &mut [u8], out: &mut [u8]) -> usize
     requires { ⌜ length (now packets) ≡ packetsSize ⌝ }
     requires { ⌜ roomMin ≤ length (now out) ⌝ }
     ensures { λ _. ⌜ now (packets .exit) ≡ counted (now (packets .entry)) slot drops ⌝ }
-    ensures { λ r. ⌜ Says (frame K.RX 0 (payloadAt (counted (now (packets .entry)) slot drops) slot)) (now (out .entry)) 0 r (now (out .exit)) ⌝ }
+    ensures { λ r. ⌜ Writes (frame K.RX 0 (rxPayloadAt (counted (now (packets .entry)) slot drops) slot)) (now (out .entry)) 0 r (now (out .exit)) ⌝ }
 {
     let at = slot * HELD_SIZE;
     let n = packets[at] as usize;
     let count = scalar::bytes_of_u16(drops);
     let first = at + 1;
     buffer::copy(&count, packets, first + PACKETS_DROPPED);
-    wire::say(RX, 0, &packets[first..first + RX_SIZE + n], out, 0)
+    emit::write(RX, 0, &packets[first..first + RX_SIZE + n], out, 0)
 }

@@ -10,7 +10,7 @@ use borrow.Author.Tests.{eq-eqb}
 use lib.ListN.{length, take, drop, length-append, length-drop, take-append-drop}
 use lib.Seq.{length-take-le, take-all, take-at, drop-at, drop-drop}
 use Rattle.buffer.specs.Lay.{lay}
-use Rattle.scalar.specs.Scalars.{le, number, i8, column, get}
+use Rattle.scalar.specs.Scalars.{le, number, sign8, column, get}
 use Rattle.scalar.proofs.Laws.{signed-back, number-le}
 use Rattle.form.specs.Forms.{exactly}
 use Rattle.form.specs.declared.Form.{Form}
@@ -93,8 +93,8 @@ module _ (m : Info) (r : InfoIn m) (uids : List ℕ) where
           «tx_queue_capacity» = number-le 2 (m .«tx_queue_capacity») (r .«tx_queue_capacity») i;
           «freq_min_hz» = number-le 4 (m .«freq_min_hz») (r .«freq_min_hz») i;
           «freq_max_hz» = number-le 4 (m .«freq_max_hz») (r .«freq_max_hz») i;
-          «tx_power_min_dbm» = signed-back 1 i8 refl (m .«tx_power_min_dbm») (r .«tx_power_min_dbm») i;
-          «tx_power_max_dbm» = signed-back 1 i8 refl (m .«tx_power_max_dbm») (r .«tx_power_max_dbm») i;
+          «tx_power_min_dbm» = signed-back 1 sign8 refl (m .«tx_power_min_dbm») (r .«tx_power_min_dbm») i;
+          «tx_power_max_dbm» = signed-back 1 sign8 refl (m .«tx_power_max_dbm») (r .«tx_power_max_dbm») i;
           «mcu_uid_len» = mcu-back i;
           «radio_uid_len» = radio-back i;
         }

@@ -52,7 +52,8 @@ pub data Row (p : List ℕ) : Form → Type 0 where
 pub row : (p : List ℕ) → Row p (infoForm p)
 row p = by-length (le-or-lt infoSize (length p))
   where
-    by-radio : infoSize ≤ length p → mcuLen p ≤ mcuMax → infoSize + mcuLen p + 1 ≤ length p → (radioLen p ≤ radioMax) ⊎ (radioMax < radioLen p) → Row p (infoForm p)
+    by-radio : infoSize ≤ length p → mcuLen p ≤ mcuMax → infoSize + mcuLen p + 1 ≤ length p
+        → (radioLen p ≤ radioMax) ⊎ (radioMax < radioLen p) → Row p (infoForm p)
     by-radio h k l (inl n) = subst (Row p) (sized p h refl k l refl n) (is-sized record { mcu = k; radio = n; room = l })
     by-radio h k l (inr n) = subst (Row p) (long-radio p h refl k l refl n) is-wrong
 

@@ -2,7 +2,7 @@
 -- Assumes nothing.
 use Prim.Native.Nat.{_<_}
 use lib.Signed.{mag}
-use Rattle.scalar.specs.Scalars.{i8}
+use Rattle.scalar.specs.Scalars.{sign8}
 use Rattle.info.specs.declared.Info.{Info}
 
 -- of a signed one, mag z is z or, below zero, -z - 1
@@ -21,7 +21,7 @@ pub record InfoIn (m : Info) : Type 0 where
   pub «tx_queue_capacity» : m .«tx_queue_capacity» < 0x10000
   pub «freq_min_hz» : m .«freq_min_hz» < 0x100000000
   pub «freq_max_hz» : m .«freq_max_hz» < 0x100000000
-  pub «tx_power_min_dbm» : mag (m .«tx_power_min_dbm») < i8
-  pub «tx_power_max_dbm» : mag (m .«tx_power_max_dbm») < i8
+  pub «tx_power_min_dbm» : mag (m .«tx_power_min_dbm») < sign8
+  pub «tx_power_max_dbm» : mag (m .«tx_power_max_dbm») < sign8
   pub «mcu_uid_len» : m .«mcu_uid_len» < 0x100
   pub «radio_uid_len» : m .«radio_uid_len» < 0x100

@@ -61,7 +61,7 @@ pub fn info_form(payload: &[u8]) -> Form
     Form::Size(at + 1 + radio as usize)
 }
 
-// The fields in a payload of that form. A helper of the crates above: they show the form.
+// The fields in a payload of that form. Internal: callers prove the form.
 pub fn info_of(payload: &[u8]) -> Info
     requires { ⌜ atLeast (infoForm (now payload)) (length (now payload)) ≡ true ⌝ }
     ensures { λ r. ⌜ r ≡ infoOf (now (payload .entry)) ⌝ }
@@ -125,8 +125,8 @@ fn byte(payload: &[u8], at: usize) -> u8
     payload[at]
 }
 
-// Writes a payload at the start of dst, with the uids one after the other, and answers how long it
-// is. A helper of the crates above: they show that it has room.
+// Writes a payload at the start of dst, with the uids one after the other, and returns its length.
+// Internal: callers prove that there is room.
 pub fn put_info(m: Info, uids: &[u8], dst: &mut [u8]) -> usize
     requires { ⌜ length (infoBytes m (now uids)) ≤ length (now dst) ⌝ }
     ensures { λ r. ⌜ r ≡ length (infoBytes m (now (uids .entry))) ⌝ }

@@ -51,9 +51,13 @@ lenColumn (O.Refused r) n = n
 abbrev pub lastColumn : ℕ → List ℕ
 lastColumn len = text " " ++ (decimal len ++ text "\n")
 
+-- two columns, each after a space
+unfoldable pub twoColumns : List ℕ → List ℕ → List ℕ
+twoColumns a b = text " " ++ (a ++ (text " " ++ b))
+
 -- the line of a run of n bytes at an offset
 unfoldable pub line : ℕ → Opened → ℕ → List ℕ
-line at o n = decimal at ++ (text " " ++ (typeColumn o ++ (text " " ++ (tagColumn o ++ lastColumn (lenColumn o n)))))
+line at o n = decimal at ++ (twoColumns (typeColumn o) (tagColumn o) ++ lastColumn (lenColumn o n))
 
 -- the longest line: 20 digits, a space, 10 letters, a space, 4 digits, a space, 20 digits and the line end
 abbrev pub lineMax : ℕ

@@ -3,7 +3,7 @@ ghost use mathlib.Core.Path.{_≡_};
 ghost use Prim.Native.Nat.{_+_, _≤_};
 ghost use lib.ListN.{length, take};
 ghost use Rattle.buffer.specs.Lay.{lay};
-ghost use Rattle.line.specs.Lines.{hex4, name, lastColumn, line};
+ghost use Rattle.line.specs.Lines.{hex4, name, twoColumns, lastColumn, line};
 use frame::Opened;
 use kind::ERR;
 use kind::GET_INFO;
@@ -114,8 +114,20 @@ fn last_column(n: u64, dst: &mut [u8], from: usize) -> usize
     text::put(b"\n", dst, end)
 }
 
-// Writes the line of a run: its offset, what opening it answers, and its length. A helper of the
-// crates above: they show that there is room.
+// Writes type and tag, each after a space.
+fn type_and_tag(kind: u8, tag: u16, dst: &mut [u8], from: usize) -> usize
+    requires { ⌜ from + length (twoColumns (name kind) (hex4 tag)) ≤ length (now dst) ⌝ }
+    ensures { λ r. ⌜ r ≡ from + length (twoColumns (name kind) (hex4 tag)) ⌝ }
+    ensures { λ r. ⌜ now (dst .exit) ≡ lay from (twoColumns (name kind) (hex4 tag)) (now (dst .entry)) ⌝ }
+{
+    let space = text::put(b" ", dst, from);
+    let named = name(kind, dst, space);
+    let next = text::put(b" ", dst, named);
+    hex4(tag, dst, next)
+}
+
+// Writes the line of a run: its offset, the result of opening it, and its length. Internal: callers
+// prove that there is room.
 pub fn line(at: u64, opened: Opened, n: u64, dst: &mut [u8], from: usize) -> usize
     requires { ⌜ from + length (line at opened n) ≤ length (now dst) ⌝ }
     ensures { λ r. ⌜ r ≡ from + length (line at opened n) ⌝ }
@@ -126,9 +138,6 @@ pub fn line(at: u64, opened: Opened, n: u64, dst: &mut [u8], from: usize) -> usi
         let bad = text::put(b" BAD -", dst, offset);
         return last_column(n, dst, bad);
     };
-    let space = text::put(b" ", dst, offset);
-    let named = name(kind, dst, space);
-    let next = text::put(b" ", dst, named);
-    let tagged = hex4(tag, dst, next);
+    let tagged = type_and_tag(kind, tag, dst, offset);
     last_column(len as u64, dst, tagged)
 }

@@ -2,39 +2,30 @@
 ghost use mathlib.Core.Path.{_≡_};
 ghost use Prim.Native.Nat.{_≤_, _<_};
 ghost use mathlib.Core.List.{[]};
-ghost use lib.ListN.{length, take, replicate};
-ghost use Rattle.cobs.specs.Answers.{encodedMax};
+ghost use lib.ListN.{length, take};
 ghost use Rattle.device.specs.Frames as F;
 ghost use Rattle.device.specs.Events.{roomMin};
-ghost use Rattle.control.specs.Control.{Gives, Tells};
-ghost use Rattle.intake.specs.Intake.{Rules};
-ghost use Rattle.dispatch.specs.Commands.{onReceived};
-ghost use Rattle.link.specs.Link.{Feeds, byteOut, joinOut, longer, stored, onZero};
+ghost use Rattle.control.specs.Control.{Gives, Returns};
+ghost use Rattle.dispatch.specs.Commands.{CommandTaken, onReceived};
+ghost use Rattle.link.specs.Link.{ByteTaken, byteOut, joinOut, longer, stored, onZero};
 use cobs::ENCODED_MAX;
-use control::Answer;
 use control::Device;
 use control::Link;
 use control::Order;
 use control::ROOM_MIN;
+use control::Reply;
 use control::Taken;
 use frame::Opened;
 use frame::PAYLOAD;
 use kind::EFRAME;
-use numbers::ROOM;
-use numbers::STALL;
 use slot::COMMANDS;
+use status::ROOM;
+use status::STALL;
 
 // The longest run that can be a frame.
 pub const RUN_MAX: usize = ENCODED_MAX;
 // The length of a run that is longer.
 const TOO_LONG: u16 = RUN_MAX as u16 + 1;
-
-// The memory of the run at power-up.
-pub fn empty_run() -> [u8; RUN_MAX]
-    ensures { λ r. ⌜ r ≡ replicate encodedMax 0 ⌝ }
-{
-    [0; RUN_MAX]
-}
 
 // A byte from the host.
 pub fn byte(
@@ -43,8 +34,8 @@ pub fn byte(
     run: &mut [u8; RUN_MAX],
     commands: &mut [u8; COMMANDS],
     out: &mut [u8],
-) -> Answer
-    ensures { λ r. ⌜ Feeds (byteOut (length (now (out .entry))) b (now (run .entry)) (now (commands .entry)) d)
+) -> Reply
+    ensures { λ r. ⌜ ByteTaken (byteOut (length (now (out .entry))) b (now (run .entry)) (now (commands .entry)) d)
         (now (out .entry)) r (now (out .exit)) (now (run .exit)) (now (commands .exit)) ⌝ }
 {
     if b == 0 {
@@ -54,8 +45,8 @@ pub fn byte(
 }
 
 // A byte that is zero: it ends the run.
-pub fn zero(d: Device, run: &[u8; RUN_MAX], commands: &mut [u8; COMMANDS], out: &mut [u8]) -> Answer
-    ensures { λ r. ⌜ Feeds (byteOut (length (now (out .entry))) 0 (now (run .entry)) (now (commands .entry)) d)
+pub fn zero(d: Device, run: &[u8; RUN_MAX], commands: &mut [u8; COMMANDS], out: &mut [u8]) -> Reply
+    ensures { λ r. ⌜ ByteTaken (byteOut (length (now (out .entry))) 0 (now (run .entry)) (now (commands .entry)) d)
         (now (out .entry)) r (now (out .exit)) (now (run .entry)) (now (commands .exit)) ⌝ }
 {
     if out.len() < ROOM_MIN {
@@ -68,11 +59,11 @@ pub fn zero(d: Device, run: &[u8; RUN_MAX], commands: &mut [u8; COMMANDS], out: 
     control::take(end_run(d, run, commands, out))
 }
 
-// A byte that is not: it joins the run, and nothing is written. A helper of the crates above: they
-// show that it is not zero.
-pub fn join(d: Device, b: u8, run: &mut [u8; RUN_MAX], room: usize) -> Answer
+// A byte that is not: it joins the run, and nothing is written. Internal: callers have
+// tested that it is not zero.
+pub fn join(d: Device, b: u8, run: &mut [u8; RUN_MAX], room: usize) -> Reply
     requires { ⌜ 0 < b ⌝ }
-    ensures { λ r. ⌜ Tells (joinOut room b (now (run .entry)) d .gives) r ⌝ }
+    ensures { λ r. ⌜ Returns (joinOut room b (now (run .entry)) d .gives) r ⌝ }
     ensures { λ _. ⌜ now (run .exit) ≡ joinOut room b (now (run .entry)) d .run ⌝ }
 {
     if room < ROOM_MIN {
@@ -108,7 +99,7 @@ fn keep(at: u16, b: u8, run: &mut [u8; RUN_MAX]) -> u16
 // A zero ends the run.
 fn end_run(d: Device, run: &[u8; RUN_MAX], commands: &mut [u8; COMMANDS], out: &mut [u8]) -> Taken
     requires { ⌜ roomMin ≤ length (now out) ⌝ }
-    ensures { λ r. ⌜ Rules (onZero (now (run .entry)) (now (commands .entry)) d) (now (out .entry)) r (now (out .exit)) (now (commands .exit)) ⌝ }
+    ensures { λ r. ⌜ CommandTaken (onZero (now (run .entry)) (now (commands .entry)) d) (now (out .entry)) r (now (out .exit)) (now (commands .exit)) ⌝ }
 {
     let was = d.link;
     let n = was.run as usize;
@@ -131,10 +122,12 @@ fn end_run(d: Device, run: &[u8; RUN_MAX], commands: &mut [u8; COMMANDS], out: &
 fn receive(d: Device, run: &[u8], n: usize, commands: &mut [u8; COMMANDS], out: &mut [u8]) -> Taken
     requires { ⌜ n ≤ length (now run) ⌝ }
     requires { ⌜ roomMin ≤ length (now out) ⌝ }
-    ensures { λ r. ⌜ Rules (onReceived (F.received (take n (now (run .entry)))) (now (commands .entry)) d) (now (out .entry)) r (now (out .exit)) (now (commands .exit)) ⌝ }
+    ensures { λ r. ⌜ CommandTaken
+        (onReceived (F.received (take n (now (run .entry)))) (now (commands .entry)) d)
+        (now (out .entry)) r (now (out .exit)) (now (commands .exit)) ⌝ }
 {
     let mut memory = [0u8; ENCODED_MAX];
-    let opened = open::unpack(&run[..n], ENCODED_MAX, &mut memory);
+    let opened = frame::unpack(&run[..n], ENCODED_MAX, &mut memory);
     let Opened::Body { kind, tag, len } = opened else {
         return damaged(d, out);
     };
@@ -149,6 +142,6 @@ fn damaged(d: Device, out: &mut [u8]) -> Taken
     requires { ⌜ roomMin ≤ length (now out) ⌝ }
     ensures { λ r. ⌜ Gives (onReceived F.damaged [] d .done) (now (out .entry)) 0 r (now (out .exit)) ⌝ }
 {
-    let w = wire::say_err(EFRAME, 0, out, 0);
+    let w = emit::write_err(EFRAME, 0, out, 0);
     control::done(d, w, Order::Nothing)
 }

@@ -4,13 +4,13 @@ use Prim.Native.Nat.{ℕ}
 use mathlib.Core.Path.{_≡_, sym}
 use mathlib.Core.List.{List}
 use Rattle.control.specs.declared.Device.{Device}
-use Rattle.control.specs.declared.Answer.{Answer}
-use Rattle.control.specs.Control.{Out, answerOf, answerNumbers, Tells}
+use Rattle.control.specs.declared.Reply.{Reply}
+use Rattle.control.specs.Control.{Out, replied, replyNumbers, Returns}
 use Rattle.machine.specs.Machine.{Left}
 
-pub left-by : {x : Out} {r : Answer} {run run' m m' p p' o o' : List ℕ} → Tells x r → run' ≡ run → m' ≡ m → p' ≡ p → o' ≡ o
-    → _≡_ {A = Left} (record { device = x .next; answer = answerNumbers (answerOf x); run = run; commands = m; packets = p; out = o })
-    (record { device = r .device; answer = answerNumbers r; run = run'; commands = m'; packets = p'; out = o' })
+pub left-by : {x : Out} {r : Reply} {run run' m m' p p' o o' : List ℕ} → Returns x r → run' ≡ run → m' ≡ m → p' ≡ p → o' ≡ o
+    → _≡_ {A = Left} (record { device = x .next; answer = replyNumbers (replied x); run = run; commands = m; packets = p; out = o })
+    (record { device = r .device; answer = replyNumbers r; run = run'; commands = m'; packets = p'; out = o' })
 left-by t a b c d = go (sym (t .state)) (sym (t .numbers)) (sym a) (sym b) (sym c) (sym d)
   where
     go : {e e' : Device} {n n' run run' m m' p p' o o' : List ℕ} → e ≡ e' → n ≡ n' → run ≡ run' → m ≡ m' → p ≡ p' → o ≡ o'

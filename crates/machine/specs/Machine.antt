@@ -5,14 +5,13 @@ use mathlib.Core.List.{List}
 use lib.ListN.{length}
 use Rattle.buffer.specs.Lay.{lay}
 use Rattle.device.specs.State as S
-use Rattle.wire.specs.Wire.{sends}
+use Rattle.emit.specs.Emitting.{framesBytes}
 use Rattle.control.specs.declared.Device.{Device}
-use Rattle.control.specs.declared.Answer.{Answer}
-use Rattle.control.specs.Control.{Out, answerOf, answerNumbers}
-use Rattle.outcome.specs.Outcomes.{clearOut, busyOut, sentOut, faultOut}
-use Rattle.inbox.specs.Packets.{packetOf, packetOut, requestOut}
+use Rattle.control.specs.declared.Reply.{Reply}
+use Rattle.control.specs.Control.{Out, replied, replyNumbers}
+use Rattle.outcome.specs.Outcomes.{clearOut, busyOut, sentOut, faultOut, configuredOut}
+use Rattle.inbox.specs.Packets.{receivedPacket, packetOut, requestOut}
 use Rattle.session.specs.Session.{tickOut, disconnectOut}
-use Rattle.configured.specs.Configured.{configuredOut}
 use Rattle.link.specs.Link.{byteOut}
 use Rattle.machine.specs.declared.Event.{Event}
 use Rattle.machine.specs.declared.Event.the-variants.{Byte, Tick, Clear, Busy, Sent, Configured, Fault, Packet, Request, Disconnect}
@@ -41,45 +40,45 @@ eventOf Busy bs = S.busy
 eventOf (Sent airtime) bs = S.sent airtime
 eventOf Configured bs = S.configured
 eventOf Fault bs = S.fault
-eventOf (Packet h) bs = S.packet (packetOf h bs)
+eventOf (Packet h) bs = S.packet (receivedPacket h bs)
 eventOf Request bs = S.request
 eventOf Disconnect bs = S.disconnect
 
 -- what it leaves, and what it answers
 pub record Ran : Type 0 where
   pub next : Machine
-  pub answer : Answer
+  pub answer : Reply
   pub out : List ℕ
 
 -- an event that writes to the output
-abbrev pub speaks : Out → List ℕ → List ℕ → List ℕ → List ℕ → Ran
-speaks x o run m p = record { next = machine (x .next) run m p; answer = answerOf x; out = lay 0 (sends (x .said)) o }
+abbrev pub withOutput : Out → List ℕ → List ℕ → List ℕ → List ℕ → Ran
+withOutput x o run m p = record { next = machine (x .next) run m p; answer = replied x; out = lay 0 (framesBytes (x .writes)) o }
 
 -- an event that is lent none
-abbrev pub keepsStill : Out → List ℕ → List ℕ → List ℕ → List ℕ → Ran
-keepsStill x o run m p = record { next = machine (x .next) run m p; answer = answerOf x; out = o }
+abbrev pub withoutOutput : Out → List ℕ → List ℕ → List ℕ → List ℕ → Ran
+withoutOutput x o run m p = record { next = machine (x .next) run m p; answer = replied x; out = o }
 
 -- the ten events
-abbrev pub runsOn : S.Event → List ℕ → Machine → Ran
-runsOn (S.byte b) o y =
+abbrev pub steppedOn : S.Event → List ℕ → Machine → Ran
+steppedOn (S.byte b) o y =
     let x = byteOut (length o) b (y .run) (y .commands) (y .device) in
-    speaks (x .gives) o (x .run) (x .commands) (y .packets)
-runsOn S.tick o y = keepsStill (tickOut (length o) (y .device)) o (y .run) (y .commands) (y .packets)
-runsOn S.clear o y = keepsStill (clearOut (length o) (y .device)) o (y .run) (y .commands) (y .packets)
-runsOn S.busy o y = speaks (busyOut (length o) (y .commands) (y .device)) o (y .run) (y .commands) (y .packets)
-runsOn (S.sent airtime) o y = speaks (sentOut airtime (length o) (y .commands) (y .device)) o (y .run) (y .commands) (y .packets)
-runsOn S.configured o y = speaks (configuredOut (length o) (y .commands) (y .device)) o (y .run) (y .commands) (y .packets)
-runsOn S.fault o y = speaks (faultOut (length o) (y .commands) (y .device)) o (y .run) (y .commands) (y .packets)
-runsOn (S.packet p) o y =
+    withOutput (x .gives) o (x .run) (x .commands) (y .packets)
+steppedOn S.tick o y = withoutOutput (tickOut (length o) (y .device)) o (y .run) (y .commands) (y .packets)
+steppedOn S.clear o y = withoutOutput (clearOut (length o) (y .device)) o (y .run) (y .commands) (y .packets)
+steppedOn S.busy o y = withOutput (busyOut (length o) (y .commands) (y .device)) o (y .run) (y .commands) (y .packets)
+steppedOn (S.sent airtime) o y = withOutput (sentOut airtime (length o) (y .commands) (y .device)) o (y .run) (y .commands) (y .packets)
+steppedOn S.configured o y = withOutput (configuredOut (length o) (y .commands) (y .device)) o (y .run) (y .commands) (y .packets)
+steppedOn S.fault o y = withOutput (faultOut (length o) (y .commands) (y .device)) o (y .run) (y .commands) (y .packets)
+steppedOn (S.packet p) o y =
     let x = packetOut (length o) p (y .packets) (y .device) in
-    keepsStill (x .gives) o (y .run) (y .commands) (x .packets)
-runsOn S.request o y =
+    withoutOutput (x .gives) o (y .run) (y .commands) (x .packets)
+steppedOn S.request o y =
     let x = requestOut (length o) (y .packets) (y .device) in
-    speaks (x .gives) o (y .run) (y .commands) (x .packets)
-runsOn S.disconnect o y = keepsStill (disconnectOut (length o) (y .device)) o (y .run) (y .commands) (y .packets)
+    withOutput (x .gives) o (y .run) (y .commands) (x .packets)
+steppedOn S.disconnect o y = withoutOutput (disconnectOut (length o) (y .device)) o (y .run) (y .commands) (y .packets)
 
-unfoldable pub runs : Machine → Call → Ran
-runs y c = runsOn (c .event) (c .out) y
+unfoldable pub stepped : Machine → Call → Ran
+stepped y c = steppedOn (c .event) (c .out) y
 
 -- what is left of a call: the next state, the answer in numbers, the three memories and the output
 pub record Left : Type 0 where
@@ -92,10 +91,10 @@ pub record Left : Type 0 where
 
 unfoldable pub leaves : Machine → Call → Left
 leaves y c =
-    let x = runs y c in
+    let x = stepped y c in
     record {
       device = x .next .device;
-      answer = answerNumbers (x .answer);
+      answer = replyNumbers (x .answer);
       run = x .next .run;
       commands = x .next .commands;
       packets = x .next .packets;

@@ -1,11 +1,11 @@
 // The device in code as one function: any of the ten events, with the state and its memories.
 ghost use mathlib.Core.Path.{_≡_};
-ghost use Rattle.control.specs.Control.{answerNumbers};
+ghost use Rattle.control.specs.Control.{replyNumbers};
 ghost use Rattle.machine.specs.Machine.{eventOf, leaves};
-use control::Answer;
 use control::Device;
-use inbox::Heard;
+use control::Reply;
 use inbox::PACKETS;
+use inbox::PacketStatus;
 use link::RUN_MAX;
 use slot::COMMANDS;
 
@@ -19,7 +19,7 @@ pub enum Event {
     Sent(u32),
     Configured,
     Fault,
-    Packet(Heard),
+    Packet(PacketStatus),
     Request,
     Disconnect,
 }
@@ -33,13 +33,13 @@ pub fn step(
     commands: &mut [u8; COMMANDS],
     packets: &mut [u8; PACKETS],
     out: &mut [u8],
-) -> Answer
+) -> Reply
     ensures { λ r. ⌜ leaves
         (record { device = d; run = now (run .entry); commands = now (commands .entry); packets = now (packets .entry) })
         (record { event = eventOf e (now (bytes .entry)); out = now (out .entry) })
         ≡ record {
           device = r .device;
-          answer = answerNumbers r;
+          answer = replyNumbers r;
           run = now (run .exit);
           commands = now (commands .exit);
           packets = now (packets .exit);
@@ -64,7 +64,7 @@ pub fn step(
             return outcome::sent(d, airtime, commands, out);
         }
         Event::Configured => {
-            return configured::configured(d, commands, out);
+            return outcome::configured(d, commands, out);
         }
         Event::Fault => {
             return outcome::fault(d, commands, out);

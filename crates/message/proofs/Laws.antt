@@ -23,35 +23,35 @@ use Rattle.command.specs.Ranges.{CommandIn}
 use Rattle.command.specs.declared.Command.{Command}
 use Rattle.command.specs.declared.Asked.the-variants as A
 use Rattle.command.proofs.Laws.{command-small, command-back, command-tail}
-use Rattle.answer.specs.Answers.{answerForm, readAnswer, answerKind, answerName, Names, answerBytes, answerTail}
+use Rattle.answer.specs.Answers.{answerForm, readAnswer, answerKind, answerName, MayAnswer, answerBytes, answerTail}
 use Rattle.answer.specs.Ranges.{AnswerIn}
 use Rattle.answer.specs.declared.Answer.{Answer}
 use Rattle.answer.specs.declared.Answered.the-variants as D
 use Rattle.answer.proofs.Laws.{answer-small, answer-back, answer-tail, form-named, read-named, tail-named}
-use Rattle.verdict.specs.Judging.{has, formOf, fitsRead, fitsWritten, judge}
+use Rattle.wellformed.specs.Checking.{has, formOf, fitsRead, fitsWritten, check}
 use Rattle.message.specs.Back.{FrameBack, BodyBack}
 use Rattle.writer.specs.Writing.{where-good, bodyAnswer, writeAnswer}
-use Rattle.verdict.specs.declared.Kinds.{Kinds}
-use Rattle.verdict.specs.declared.Kinds.the-variants as K
-use Rattle.verdict.specs.declared.Judged.{Judged}
-use Rattle.verdict.specs.declared.Judged.the-variants as J
-use Rattle.verdict.proofs.Laws.{Good, good}
+use Rattle.wellformed.specs.declared.Kinds.{Kinds}
+use Rattle.wellformed.specs.declared.Kinds.the-variants as K
+use Rattle.wellformed.specs.declared.Checked.{Checked}
+use Rattle.wellformed.specs.declared.Checked.the-variants as J
+use Rattle.wellformed.proofs.Laws.{Good, good}
 use Rattle.reader.proofs.Steps.{takes}
 
 -- ---- what was written was good
 
-done : (j : Judged) (w : Written) {n : ℕ} → where-good j w ≡ W.Done n → j ≡ J.Good
+done : (j : Checked) (w : Written) {n : ℕ} → where-good j w ≡ W.Done n → j ≡ J.Good
 done J.Good w e = refl
 done (J.Refused r) w e = absurd (let z : _≡_ {A = ℕ} 0 1 = cc in omega arith)
 
 module _ (kinds : Kinds) (k t : ℕ) (p : List ℕ) (room : ℕ) {n : ℕ} where
   body-good : bodyAnswer kinds k t p room ≡ W.Done n → Good kinds k t (fitsWritten kinds k p)
   unfolding bodyAnswer
-  body-good e = good kinds k t (fitsWritten kinds k p) (done (judge kinds k t (fitsWritten kinds k p)) _ e)
+  body-good e = good kinds k t (fitsWritten kinds k p) (done (check kinds k t (fitsWritten kinds k p)) _ e)
 
   frame-good : writeAnswer kinds k t p room ≡ W.Done n → Good kinds k t (fitsWritten kinds k p)
   unfolding writeAnswer
-  frame-good e = good kinds k t (fitsWritten kinds k p) (done (judge kinds k t (fitsWritten kinds k p)) _ e)
+  frame-good e = good kinds k t (fitsWritten kinds k p) (done (check kinds k t (fitsWritten kinds k p)) _ e)
 
 -- ---- a frame is read back, whatever message it holds
 
@@ -64,8 +64,8 @@ module _ (kinds : Kinds) (k t : ℕ) (p d : List ℕ) (small : t < 65536) (short
   same-payload : payloadOf (decoded run) ≡ p
   same-payload = ap payloadOf (round-trip (body k t p)) ∙ payload-body k t p
 
-  judged : judge kinds k t (fitsRead kinds k (payloadOf (decoded run))) ≡ J.Good
-  unfolding judge
+  judged : check kinds k t (fitsRead kinds k (payloadOf (decoded run))) ≡ J.Good
+  unfolding check
   judged = rw (same-payload, g .tag, g .type, g .form)
 
   frame-back : FrameBack kinds k t p d
@@ -113,7 +113,7 @@ module _ (c : Command) (i : CommandIn c) (tag : ℕ) (small : tag < 65536) (byte
 
 module _ (a : Answer) (i : AnswerIn a) (tag : ℕ) (small : tag < 65536) (bytes : List ℕ) (room : ℕ) where
   pub answer-frame : {n : ℕ} → writeAnswer (K.Answers (answerName a)) (answerKind a) tag (answerBytes a bytes) room ≡ W.Done n
-      → (name : Name) → Names a name → (d : List ℕ) → length (encoded (body (answerKind a) tag (answerBytes a bytes))) ≤ length d
+      → (name : Name) → MayAnswer a name → (d : List ℕ) → length (encoded (body (answerKind a) tag (answerBytes a bytes))) ≤ length d
       → FrameBack (K.Answers name) (answerKind a) tag (answerBytes a bytes) d
       × (readAnswer (answerKind a) name (answerBytes a bytes) ≡ D.Answer a)
       × (answerTail (answerKind a) name (answerBytes a bytes) ≡ bytes)
@@ -122,14 +122,15 @@ module _ (a : Answer) (i : AnswerIn a) (tag : ℕ) (small : tag < 65536) (bytes 
       let k = answerKind a in
       let p = answerBytes a bytes in
       let g = frame-good (K.Answers (answerName a)) k tag p room e in
-      let f : atLeast (answerForm k name p) (length p) ≡ true = rw (form-named a name may p) (exactly-at-least (answerForm k (answerName a) p) (length p) (g .form)) in (
+      let x = exactly-at-least (answerForm k (answerName a) p) (length p) (g .form) in
+      let f : atLeast (answerForm k name p) (length p) ≡ true = rw (form-named a name may p) x in (
         frame-back (K.Answers name) k tag p d small (answer-small k (answerName a) p (g .form)) h record { tag = g .tag; type = g .type; form = f },
         read-named a name may p ∙ answer-back a i bytes (g .form),
         tail-named a name may p ∙ answer-tail a i bytes (g .form),
       )
 
   pub answer-body : {n : ℕ} → bodyAnswer (K.Answers (answerName a)) (answerKind a) tag (answerBytes a bytes) room ≡ W.Done n
-      → (name : Name) → Names a name
+      → (name : Name) → MayAnswer a name
       → BodyBack (answerKind a) tag (answerBytes a bytes)
       × (readAnswer (answerKind a) name (answerBytes a bytes) ≡ D.Answer a)
       × (answerTail (answerKind a) name (answerBytes a bytes) ≡ bytes)

@@ -10,7 +10,7 @@ use Rattle.frame.specs.Body.{body, payloadOf}
 use Rattle.frame.specs.Reading.{openBody}
 use Rattle.frame.specs.declared.Opened.the-variants as O
 use Rattle.reader.specs.Reading.{receiveAnswer, receiveLeft}
-use Rattle.verdict.specs.declared.Kinds.{Kinds}
+use Rattle.wellformed.specs.declared.Kinds.{Kinds}
 
 -- A reader of these types takes the frame, which is `encoded (body k t p)` and a zero, with this type, tag and payload, and has the body in its memory d.
 pub record FrameBack (kinds : Kinds) (k t : ℕ) (p d : List ℕ) : Type 0 where

@@ -15,14 +15,14 @@ use Rattle.buffer.proofs.Deciding.{le-or-lt}
 use Rattle.buffer.proofs.Laws.{next, no-more, the-rest}
 use Rattle.buffer.specs.Lay.{lay}
 use Rattle.scalar.specs.Bytes.{IsByte, Bytes}
-use Rattle.scalar.specs.Scalars.{le, number, i8, signed, unsigned, column, get}
+use Rattle.scalar.specs.Scalars.{le, number, sign8, signed, unsigned, column, get}
 use Rattle.scalar.proofs.Bytes.{each-take, each-drop, get-small}
 use Rattle.scalar.proofs.Laws.{signed-back, signed-low, signed-high, mag-signed, number-le, le-number, get-byte}
 use Rattle.form.specs.Forms.{exactly}
 use Rattle.form.proofs.Laws.{exactly-size, passed}
 use Rattle.modulation.specs.Lora.{loraOf, loraBytes}
-use Rattle.modulation.specs.Fsk.{sync-word-len, fskOf, fskBytes}
-use Rattle.modulation.specs.Modulations.{LORA, FSK, modulation-id, paramsOf, configForm, configOf, configBytes, syncWord}
+use Rattle.modulation.specs.Fsk.{«sync_word_len», fskOf, fskBytes}
+use Rattle.modulation.specs.Modulations.{LORA, FSK, «modulation_id», paramsOf, configForm, configOf, configBytes, syncWord}
 use Rattle.modulation.specs.Ranges.{LoraIn, FskIn, ModulationIn}
 use Rattle.modulation.specs.declared.Lora.{Lora}
 use Rattle.modulation.specs.declared.Fsk.{Fsk}
@@ -45,7 +45,7 @@ lora-back m r bs =
       cr = number-le 1 (m .cr) (r .cr) i;
       «preamble_len» = number-le 2 (m .«preamble_len») (r .«preamble_len») i;
       «sync_word» = number-le 2 (m .«sync_word») (r .«sync_word») i;
-      «tx_power_dbm» = signed-back 1 i8 refl (m .«tx_power_dbm») (r .«tx_power_dbm») i;
+      «tx_power_dbm» = signed-back 1 sign8 refl (m .«tx_power_dbm») (r .«tx_power_dbm») i;
       «header_mode» = number-le 1 (m .«header_mode») (r .«header_mode») i;
       «payload_crc» = number-le 1 (m .«payload_crc») (r .«payload_crc») i;
       «iq_invert» = number-le 1 (m .«iq_invert») (r .«iq_invert») i;
@@ -164,7 +164,7 @@ lora-in p b =
       cr = get-small 6 1 p b;
       «preamble_len» = get-small 7 2 p b;
       «sync_word» = get-small 9 2 p b;
-      «tx_power_dbm» = mag-signed i8 _ (get-small 11 1 p b);
+      «tx_power_dbm» = mag-signed sign8 _ (get-small 11 1 p b);
       «header_mode» = get-small 12 1 p b;
       «payload_crc» = get-small 13 1 p b;
       «iq_invert» = get-small 14 1 p b;
@@ -184,7 +184,7 @@ fsk-in p b =
 
 pub config-in : (p : List ℕ) → Bytes p → ModulationIn (configOf p)
 unfolding configOf
-config-in p b = go (eqb (get modulation-id p) LORA)
+config-in p b = go (eqb (get «modulation_id» p) LORA)
   where
     go : (lora : Bool) → ModulationIn (cond lora (M.Lora (loraOf (paramsOf p))) (M.Fsk (fskOf (paramsOf p))))
     go true = lora-in (paramsOf p) (each-drop IsByte 1 p b)
@@ -218,7 +218,7 @@ module _ (q : List ℕ) (b : Bytes q) where
       (column-same 6 1 (omega arith) refl
       (column-same 7 2 (omega arith) refl
       (column-same 9 2 (omega arith) refl
-      (column-same 11 1 (omega arith) (unsigned-back i8 (get (column 11 1) q) (get-small 11 1 q b))
+      (column-same 11 1 (omega arith) (unsigned-back sign8 (get (column 11 1) q) (get-small 11 1 q b))
       (column-same 12 1 (omega arith) refl
       (column-same 13 1 (omega arith) refl
       (column-same 14 1 (omega arith) refl refl)))))))))
@@ -243,7 +243,7 @@ config-same p b e = go (row p) e
     bytes : Bytes q
     bytes = each-drop IsByte 1 p b
 
-    whole : {id : ℕ} → get modulation-id p ≡ id → 0 < length p → id ∷ q ≡ p
+    whole : {id : ℕ} → get «modulation_id» p ≡ id → 0 < length p → id ∷ q ≡ p
     whole t h = sym (next p 0 h ∙ ap (λ (id : ℕ). id ∷ q) (get-byte 0 p h ∙ t))
 
     go : {f : Form} → Row p f → exactly f (length p) ≡ true → configBytes (configOf p) (syncWord p) ≡ p
@@ -254,12 +254,12 @@ config-same p b e = go (row p) e
         ∙ ap (λ (bs : List ℕ). LORA ∷ bs) (lora-same q bytes (omega arith))
         ∙ whole t (omega arith)
     go (is-fsk t h k) e =
-        let n = eqb-true (17 + get sync-word-len q) (length p) e in
+        let n = eqb-true (17 + get «sync_word_len» q) (length p) e in
         let l = length-drop 1 p in
         ap₂
         configBytes
         (sym (of-fsk p refl (omega arith)))
-        (sym (word-some p refl t refl) ∙ the-rest p 17 (get sync-word-len q) (omega arith) ∙ sym (drop-drop 16 1 p))
+        (sym (word-some p refl t refl) ∙ the-rest p 17 (get «sync_word_len» q) (omega arith) ∙ sym (drop-drop 16 1 p))
         ∙ ap (λ (bs : List ℕ). FSK ∷ bs) (fsk-same q bytes (omega arith))
         ∙ whole t (omega arith)
     go is-wrong e = absurd (true≢false (sym e))

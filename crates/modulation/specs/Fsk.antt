@@ -7,23 +7,23 @@ use Rattle.scalar.specs.Scalars.{Column, column, get, put}
 use Rattle.modulation.specs.declared.Fsk.{Fsk}
 
 -- offset and size
-abbrev freq-hz : Column
-freq-hz = column 0 4
+abbrev «freq_hz» : Column
+«freq_hz» = column 0 4
 
-abbrev bitrate-bps : Column
-bitrate-bps = column 4 4
+abbrev «bitrate_bps» : Column
+«bitrate_bps» = column 4 4
 
-abbrev freq-dev-hz : Column
-freq-dev-hz = column 8 4
+abbrev «freq_dev_hz» : Column
+«freq_dev_hz» = column 8 4
 
-abbrev rx-bw : Column
-rx-bw = column 12 1
+abbrev «rx_bw» : Column
+«rx_bw» = column 12 1
 
-abbrev preamble-len : Column
-preamble-len = column 13 2
+abbrev «preamble_len» : Column
+«preamble_len» = column 13 2
 
-abbrev pub sync-word-len : Column
-sync-word-len = column 15 1
+abbrev pub «sync_word_len» : Column
+«sync_word_len» = column 15 1
 
 abbrev pub fskSize : ℕ
 fskSize = 16
@@ -36,21 +36,21 @@ syncWordMax = 8
 unfoldable pub fskOf : List ℕ → Fsk
 fskOf p =
     record {
-      «freq_hz» = get freq-hz p;
-      «bitrate_bps» = get bitrate-bps p;
-      «freq_dev_hz» = get freq-dev-hz p;
-      «rx_bw» = get rx-bw p;
-      «preamble_len» = get preamble-len p;
-      «sync_word_len» = get sync-word-len p;
+      «freq_hz» = get «freq_hz» p;
+      «bitrate_bps» = get «bitrate_bps» p;
+      «freq_dev_hz» = get «freq_dev_hz» p;
+      «rx_bw» = get «rx_bw» p;
+      «preamble_len» = get «preamble_len» p;
+      «sync_word_len» = get «sync_word_len» p;
     }
 
 -- their bytes, without the sync word
 unfoldable pub fskBytes : Fsk → List ℕ
 fskBytes m =
-    put freq-hz (m .«freq_hz»)
-    (put bitrate-bps (m .«bitrate_bps»)
-    (put freq-dev-hz (m .«freq_dev_hz»)
-    (put rx-bw (m .«rx_bw»)
-    (put preamble-len (m .«preamble_len»)
-    (put sync-word-len (m .«sync_word_len»)
+    put «freq_hz» (m .«freq_hz»)
+    (put «bitrate_bps» (m .«bitrate_bps»)
+    (put «freq_dev_hz» (m .«freq_dev_hz»)
+    (put «rx_bw» (m .«rx_bw»)
+    (put «preamble_len» (m .«preamble_len»)
+    (put «sync_word_len» (m .«sync_word_len»)
     (replicate fskSize 0))))))

@@ -2,7 +2,7 @@
 -- Assumes nothing.
 use Prim.Native.Nat.{_<_}
 use lib.Signed.{mag}
-use Rattle.scalar.specs.Scalars.{i8}
+use Rattle.scalar.specs.Scalars.{sign8}
 use Rattle.modulation.specs.declared.Lora.{Lora}
 use Rattle.modulation.specs.declared.Fsk.{Fsk}
 use Rattle.modulation.specs.declared.Modulation.{Modulation}
@@ -16,7 +16,7 @@ pub record LoraIn (m : Lora) : Type 0 where
   pub cr : m .cr < 0x100
   pub «preamble_len» : m .«preamble_len» < 0x10000
   pub «sync_word» : m .«sync_word» < 0x10000
-  pub «tx_power_dbm» : mag (m .«tx_power_dbm») < i8
+  pub «tx_power_dbm» : mag (m .«tx_power_dbm») < sign8
   pub «header_mode» : m .«header_mode» < 0x100
   pub «payload_crc» : m .«payload_crc» < 0x100
   pub «iq_invert» : m .«iq_invert» < 0x100

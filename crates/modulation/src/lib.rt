@@ -84,8 +84,8 @@ pub fn config_form(payload: &[u8]) -> Form
     Form::Size(PARAMS + FSK_SIZE + word as usize)
 }
 
-// The configuration in a payload of that form. A helper of the crates above, as the next: they show
-// the form, and that there is room.
+// The configuration in a payload of that form. Internal, as the next: callers prove the
+// form, and that there is room.
 pub fn config_of(payload: &[u8]) -> Modulation
     requires { ⌜ atLeast (configForm (now payload)) (length (now payload)) ≡ true ⌝ }
     ensures { λ r. ⌜ r ≡ configOf (now (payload .entry)) ⌝ }

@@ -10,8 +10,8 @@ use answer::CONFIGURED_SIZE;
 use answer::Configured;
 use answer::TX_DONE_SIZE;
 
-// Writes the payload of an answer with its bytes, and answers how long it is. A helper of the
-// crates above: they show that it has room.
+// Writes the payload of an answer with its bytes, and returns its length. Internal: callers prove
+// that there is room.
 pub fn put_answer(a: Answer, bytes: &[u8], dst: &mut [u8]) -> usize
     requires { ⌜ length (answerBytes a (now bytes)) ≤ length (now dst) ⌝ }
     ensures { λ r. ⌜ r ≡ length (answerBytes a (now (bytes .entry))) ⌝ }

@@ -1,5 +1,5 @@
--- Laws of what comes after a TX, and of the loop that cancels those that wait: what is left to write, laid on the output as it is, is all that is to be written, laid on the
--- output as it was.
+-- Laws of what comes after a TX, and of the loop that cancels those that wait: what is left to write, laid on the output as it is,
+-- is all that is to be written, laid on the output as it was.
 -- Assumes nothing.
 use Prim.Native.Nat.{ℕ, zero, suc, _+_, _-_, _*_, _%_, _<_, _≤_}
 use mathlib.Core.Path.{_≡_, refl, sym, ap, _∙_}
@@ -11,8 +11,8 @@ use Rattle.buffer.specs.Lay.{lay}
 use Rattle.buffer.proofs.Laws.{lay-none}
 use Rattle.kind.specs.Kinds.{CANCELLED}
 use Rattle.device.specs.Messages.{seen, txDone}
-use Rattle.wire.specs.Wire.{bytesOf, sends, Says}
-use Rattle.wire.proofs.Laws.{lay-after, length-done}
+use Rattle.emit.specs.Emitting.{bytesOf, framesBytes, Writes}
+use Rattle.emit.proofs.Laws.{lay-after, length-done}
 use Rattle.control.specs.declared.Device.{Device}
 use Rattle.slot.specs.Slots.{tagAt}
 use Rattle.queue.specs.Queue.{start, waitingTags, cancels, begin, next, afterTx}
@@ -21,12 +21,12 @@ use Rattle.queue.specs.Queue.{start, waitingTags, cancels, begin, next, 
 
 -- the bytes of n TX_DONEs, from slot k on
 abbrev pub reports : List ℕ → ℕ → ℕ → List ℕ
-reports m k n = sends (cancels (waitingTags m k n))
+reports m k n = framesBytes (cancels (waitingTags m k n))
 
 -- the first, and the rest
 next-report : (m : List ℕ) (k n : ℕ) → 0 < n
     → reports m k n ≡ bytesOf (seen (txDone CANCELLED 0 (tagAt m k))) ++ reports m ((k + 1) % 16) (n - 1)
-unfolding sends waitingTags
+unfolding framesBytes waitingTags
 next-report m k zero h = absurd (omega arith)
 next-report m k (suc n) h = let e : suc n - 1 ≡ n = omega arith in rw e
 
@@ -42,11 +42,11 @@ pub turn-first : (m : List ℕ) (k n w : ℕ) (o : List ℕ) → k < 16 → w + 
 turn-first m k n w o b f = record { below = b; fits = f; long = refl; ends = refl; same = refl }
 
 module _ {m : List ℕ} {k₀ n w₀ : ℕ} {o₀ : List ℕ} {k left w : ℕ} {o : List ℕ} (t : Turn m k₀ n w₀ o₀ k left w o) where
-  pub turn-next : 0 < left → {tag : ℕ} → tag ≡ tagAt m k → {w' : ℕ} {o' : List ℕ} → Says (seen (txDone CANCELLED 0 tag)) o w w' o' → length o' ≡ length o
+  pub turn-next : 0 < left → {tag : ℕ} → tag ≡ tagAt m k → {w' : ℕ} {o' : List ℕ} → Writes (seen (txDone CANCELLED 0 tag)) o w w' o' → length o' ≡ length o
       → Turn m k₀ n w₀ o₀ ((k + 1) % 16) (left - 1) w' o'
   turn-next p {tag} e {w'} {o'} s l =
       let f = seen (txDone CANCELLED 0 (tagAt m k)) in
-      let g : Says f o w w' o' = rw e at s in
+      let g : Writes f o w w' o' = rw e at s in
       let r = reports m ((k + 1) % 16) (left - 1) in
       let q = next-report m k left p in
       let a = ap length q ∙ length-append (bytesOf f) r in
@@ -59,7 +59,7 @@ module _ {m : List ℕ} {k₀ n w₀ : ℕ} {o₀ : List ℕ} {k left w : ℕ} {
       }
 
   pub turn-last : left ≤ 0 → (w ≡ w₀ + length (reports m k₀ n)) × (o ≡ lay w₀ (reports m k₀ n) o₀)
-  unfolding sends waitingTags
+  unfolding framesBytes waitingTags
   turn-last p =
       let z : left ≡ 0 = omega arith in
       (omega (arith, rw z at (t .ends)), sym (lay-none w o) ∙ (rw z at (t .same)))

@@ -12,7 +12,7 @@ use Rattle.board.specs.Board.{txMax}
 use Rattle.board.specs.Ldro.{slow}
 use Rattle.device.specs.Messages.{Frame, seen, cancelled}
 use Rattle.device.specs.Events as E
-use Rattle.wire.specs.Wire.{done-room}
+use Rattle.emit.specs.Emitting.{done-room}
 use Rattle.control.specs.declared.Mode.{Mode}
 use Rattle.control.specs.declared.Mode.the-variants.{Unconfigured, Lora, Fsk}
 use Rattle.control.specs.declared.Radio.{Radio}
@@ -70,7 +70,7 @@ unfoldable pub begin : List ℕ → Device → Done
 begin m d =
     record {
       next = withAir d (air Configuring false (d .air .first) 0);
-      said = cancels (waitingTags m (d .air .first % txMax) (min (d .air .waiting) txMax));
+      writes = cancels (waitingTags m (d .air .first % txMax) (min (d .air .waiting) txMax));
       order = Configure (setting * slotSize + payload-at) (lenAt m setting + 1) (ldroAt m);
     }
 

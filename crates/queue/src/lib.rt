@@ -1,11 +1,11 @@
 // The commands that were taken and are not done: the TX that are with the radio or wait, and the
-// SET_CONFIG that waits or runs. Helpers of the events.
+// SET_CONFIG that waits or runs. Internal to the events.
 ghost use mathlib.Core.Path.{_≡_};
 ghost use Prim.Native.Nat.{_+_, _*_, _≤_, _<_, min};
 ghost use lib.ListN.{length};
 ghost use Rattle.board.specs.Board.{txMax};
 ghost use Rattle.control.specs.Control.{Gives, doneAt};
-ghost use Rattle.wire.specs.Wire.{sends, done-room};
+ghost use Rattle.emit.specs.Emitting.{framesBytes, done-room};
 ghost use Rattle.buffer.specs.Lay.{lay};
 ghost use Rattle.queue.specs.Queue.{cancel-room, listens, begun, start, waitingTags, cancels, ldroAt, begin, afterTx};
 use board::TX_MAX;
@@ -84,15 +84,15 @@ pub fn start(d: Device, slot: usize, waiting: u8, commands: &[u8; COMMANDS], at:
 // Writes a TX_DONE 2 for each of n waiting TX, from a slot on, and answers where they end.
 fn cancel(slot: usize, n: usize, commands: &[u8; COMMANDS], out: &mut [u8], at: usize) -> usize
     requires { ⌜ (slot < txMax) × (at + done-room * n ≤ length (now out)) ⌝ }
-    ensures { λ r. ⌜ r ≡ at + length (sends (cancels (waitingTags (now (commands .entry)) slot n))) ⌝ }
-    ensures { λ r. ⌜ now (out .exit) ≡ lay at (sends (cancels (waitingTags (now (commands .entry)) slot n))) (now (out .entry)) ⌝ }
+    ensures { λ r. ⌜ r ≡ at + length (framesBytes (cancels (waitingTags (now (commands .entry)) slot n))) ⌝ }
+    ensures { λ r. ⌜ now (out .exit) ≡ lay at (framesBytes (cancels (waitingTags (now (commands .entry)) slot n))) (now (out .entry)) ⌝ }
 {
     let mut k = slot;
     let mut left = n;
     let mut w = at;
     while 0 < left {
         let tag = scalar::u16_at(commands, k * SLOT_SIZE + TAG_AT);
-        w = wire::say_done(CANCELLED, 0, tag, out, w);
+        w = emit::write_tx_done(CANCELLED, 0, tag, out, w);
         k = (k + 1) % TX_MAX;
         left -= 1;
     }
@@ -100,7 +100,7 @@ fn cancel(slot: usize, n: usize, commands: &[u8; COMMANDS], out: &mut [u8], at: 
 }
 
 // So many TX wait: sixteen at most.
-fn few(n: u8) -> usize
+fn bounded(n: u8) -> usize
     ensures { λ r. ⌜ r ≡ min n txMax ⌝ }
 {
     let waiting = n as usize;
@@ -130,7 +130,7 @@ pub fn configure(d: Device, commands: &[u8; COMMANDS], out: &mut [u8], at: usize
     let was = d.air;
     let first = was.first;
     let slot = first as usize % TX_MAX;
-    let n = few(was.waiting);
+    let n = bounded(was.waiting);
     let w = cancel(slot, n, commands, out, at);
     let air = Air {
         radio: Radio::Configuring,

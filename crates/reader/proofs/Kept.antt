@@ -12,9 +12,9 @@ use Rattle.kind.specs.Kinds.{RX, TX-DONE}
 use Rattle.rx.specs.Rx.{rxSize}
 use Rattle.answer.specs.Answers.{answerForm, txDoneSize}
 use Rattle.answer.proofs.Steps.{rx-there, tx-done-there}
-use Rattle.verdict.specs.Judging.{has, formOf, fitsRead}
+use Rattle.wellformed.specs.Checking.{has, formOf, fitsRead}
 use Rattle.reader.specs.Reading.{receiveAnswer}
-use Rattle.verdict.specs.declared.Kinds.the-variants as K
+use Rattle.wellformed.specs.declared.Kinds.the-variants as K
 use Rattle.reader.proofs.Steps.{was-good, payload-long}
 
 module _ (run d : List ℕ) {k t n : ℕ} where

@@ -1,4 +1,4 @@
--- What reading answers and leaves, by the verdict: each law is one way through the code. And what an answer tells of the run that was read.
+-- What reading answers and leaves, by what checking the message gives: each law is one way through the code. And what an answer tells of the run that was read.
 -- Assumes nothing.
 use mathlib.Core.Path.{_≡_, refl, sym, _∙_}
 use mathlib.Core.List.{List}
@@ -6,21 +6,21 @@ use Prim.Native.Nat.{ℕ, _+_, _-_, _≤_}
 use native.Mathlib.Omega.{arith}
 use lib.ListN.{length, take, drop, length-take, length-drop}
 use lib.Seq.{take-append-le, drop-append-le}
-use Rattle.numbers.specs.declared.Refusal.{Refusal}
+use Rattle.status.specs.declared.Refusal.{Refusal}
 use Rattle.buffer.specs.Lay.{lay}
 use Rattle.cobs.specs.Decoding.{decoded}
 use Rattle.frame.specs.Body.{overhead, payloadOf}
-use Rattle.frame.specs.Reading.{openAnswer, openedSays}
+use Rattle.frame.specs.Reading.{openAnswer, openedResult}
 use Rattle.frame.specs.declared.Opened.{Opened}
 use Rattle.frame.specs.declared.Opened.the-variants as O
 use Rattle.frame.proofs.Laws.{opens-facts}
 use Rattle.frame.proofs.Same.{opened-same}
-use Rattle.verdict.specs.Judging.{fitsRead, judge}
-use Rattle.verdict.specs.declared.Kinds.{Kinds}
-use Rattle.verdict.specs.declared.Judged.{Judged}
-use Rattle.verdict.specs.declared.Judged.the-variants as J
-use Rattle.verdict.proofs.Laws.{Good, good}
-use Rattle.reader.specs.Reading.{unless, sifted, receiveAnswer, receiveLeft}
+use Rattle.wellformed.specs.Checking.{fitsRead, check}
+use Rattle.wellformed.specs.declared.Kinds.{Kinds}
+use Rattle.wellformed.specs.declared.Checked.{Checked}
+use Rattle.wellformed.specs.declared.Checked.the-variants as J
+use Rattle.wellformed.proofs.Laws.{Good, good}
+use Rattle.reader.specs.Reading.{ifWellformed, sifted, receiveAnswer, receiveLeft}
 
 module _ (kinds : Kinds) (run d : List ℕ) where
   -- the frame is refused
@@ -31,13 +31,13 @@ module _ (kinds : Kinds) (run d : List ℕ) where
 
   module _ {k t n : ℕ} (e : openAnswer run (length d) ≡ O.Body k t n) where
     -- the message is
-    pub refuses : {r : Refusal} → judge kinds k t (fitsRead kinds k (payloadOf (decoded run))) ≡ J.Refused r
+    pub refuses : {r : Refusal} → check kinds k t (fitsRead kinds k (payloadOf (decoded run))) ≡ J.Refused r
         → (receiveAnswer kinds run (length d) ≡ O.Refused r) × (receiveLeft kinds run d ≡ d)
     unfolding receiveAnswer receiveLeft
     refuses j = (rw (e, j), rw (e, j))
 
     -- neither is
-    pub takes : judge kinds k t (fitsRead kinds k (payloadOf (decoded run))) ≡ J.Good
+    pub takes : check kinds k t (fitsRead kinds k (payloadOf (decoded run))) ≡ J.Good
         → (receiveAnswer kinds run (length d) ≡ O.Body k t n) × (receiveLeft kinds run d ≡ lay 0 (decoded run) d)
     unfolding receiveAnswer receiveLeft
     takes j = (rw (e, j), rw (e, j))
@@ -45,15 +45,15 @@ module _ (kinds : Kinds) (run d : List ℕ) where
 -- ---- what was read, in the caller's memory
 
 -- what a reader answered, by a match on it
-pub received : (kinds : Kinds) (run d : List ℕ) {o case : Opened} → openedSays o ≡ openedSays (receiveAnswer kinds run (length d)) → o ≡ case
+pub received : (kinds : Kinds) (run d : List ℕ) {o case : Opened} → openedResult o ≡ openedResult (receiveAnswer kinds run (length d)) → o ≡ case
     → receiveAnswer kinds run (length d) ≡ case
 received kinds run d e m = sym (opened-same _ (receiveAnswer kinds run (length d)) e) ∙ m
 
 sift-back : (kinds : Kinds) (b : List ℕ) (o : Opened) {k t n : ℕ} → sifted kinds b o ≡ O.Body k t n → o ≡ O.Body k t n
 sift-back kinds b (O.Refused r) e = absurd (let z : _≡_ {A = ℕ} 0 1 = cc in omega arith)
-sift-back kinds b (O.Body k' t' n') {k} {t} {n} e = go (judge kinds k' t' (fitsRead kinds k' (payloadOf b))) e
+sift-back kinds b (O.Body k' t' n') {k} {t} {n} e = go (check kinds k' t' (fitsRead kinds k' (payloadOf b))) e
   where
-    go : (j : Judged) → unless j (O.Body k' t' n') ≡ O.Body k t n → O.Body k' t' n' ≡ O.Body k t n
+    go : (j : Checked) → ifWellformed j (O.Body k' t' n') ≡ O.Body k t n → O.Body k' t' n' ≡ O.Body k t n
     go J.Good f = f
     go (J.Refused r) f = absurd (let z : _≡_ {A = ℕ} 0 1 = cc in omega arith)
 
@@ -77,9 +77,9 @@ module _ (kinds : Kinds) (run d : List ℕ) {k t n : ℕ} (e : receiveAnswer kin
   -- it passed TAG, TYPE and FORM
   pub was-good : Good kinds k t (fitsRead kinds k (payloadOf (decoded run)))
   unfolding receiveAnswer
-  was-good = good kinds k t (fitsRead kinds k (payloadOf (decoded run))) (go (judge kinds k t (fitsRead kinds k (payloadOf (decoded run)))) (rw was-open at e))
+  was-good = good kinds k t (fitsRead kinds k (payloadOf (decoded run))) (go (check kinds k t (fitsRead kinds k (payloadOf (decoded run)))) (rw was-open at e))
     where
-      go : (j : Judged) → unless j (O.Body k t n) ≡ O.Body k t n → j ≡ J.Good
+      go : (j : Checked) → ifWellformed j (O.Body k t n) ≡ O.Body k t n → j ≡ J.Good
       go J.Good f = refl
       go (J.Refused r) f = absurd (let z : _≡_ {A = ℕ} 0 1 = cc in omega arith)
 

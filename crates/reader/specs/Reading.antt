@@ -9,18 +9,18 @@ use Rattle.frame.specs.Body.{payloadOf}
 use Rattle.frame.specs.Reading.{Head, openAnswer, opens}
 use Rattle.frame.specs.declared.Opened.{Opened}
 use Rattle.frame.specs.declared.Opened.the-variants as O
-use Rattle.verdict.specs.Judging.{fitsRead, judge}
-use Rattle.verdict.specs.declared.Kinds.{Kinds}
-use Rattle.verdict.specs.declared.Judged.{Judged}
-use Rattle.verdict.specs.declared.Judged.the-variants as J
+use Rattle.wellformed.specs.Checking.{fitsRead, check}
+use Rattle.wellformed.specs.declared.Kinds.{Kinds}
+use Rattle.wellformed.specs.declared.Checked.{Checked}
+use Rattle.wellformed.specs.declared.Checked.the-variants as J
 
 -- a body that was opened, or why it is refused all the same
-abbrev pub unless : Judged → Opened → Opened
-unless J.Good opened = opened
-unless (J.Refused r) opened = O.Refused r
+abbrev pub ifWellformed : Checked → Opened → Opened
+ifWellformed J.Good opened = opened
+ifWellformed (J.Refused r) opened = O.Refused r
 
 abbrev pub sifted : Kinds → List ℕ → Opened → Opened
-sifted kinds b (O.Body kind tag n) = unless (judge kinds kind tag (fitsRead kinds kind (payloadOf b))) (O.Body kind tag n)
+sifted kinds b (O.Body kind tag n) = ifWellformed (check kinds kind tag (fitsRead kinds kind (payloadOf b))) (O.Body kind tag n)
 sifted kinds b (O.Refused r) = O.Refused r
 
 -- reading a run into so much room

@@ -6,12 +6,12 @@ use mathlib.Core.List.{List, [], _∷_, _++_}
 use Prim.Native.Nat.{ℕ, _+_, _*_, _≤_}
 use native.Mathlib.Omega.{arith}
 use lib.ListN.{length, take, drop, length-append, length-take, length-drop}
-use Rattle.control.specs.declared.Answer.{Answer}
+use Rattle.control.specs.declared.Reply.{Reply}
 use Rattle.control.specs.declared.Order.{Order}
 use Rattle.control.specs.declared.Order.the-variants as O
 use Rattle.text.specs.Text.{text, decimal, hex}
 use Rattle.text.proofs.Digits.{length-decimal}
-use Rattle.trace.specs.Traces.{plain, flag, orderText, bytesText, traceLine, eventText, countLine}
+use Rattle.trace.specs.Traces.{plain, flag, orderText, bytesText, numberColumn, traceLine, eventText, countLine}
 
 length-hex : (bs : List ℕ) → length (hex bs) ≡ 2 * length bs
 unfolding hex
@@ -37,13 +37,13 @@ bytes-most : (bs : List ℕ) → length (bytesText bs) ≤ 2 * length bs + 1
 bytes-most [] = omega arith
 bytes-most (b ∷ bs) = omega (arith, length-hex (b ∷ bs))
 
-line-most : (k : ℕ) (a : Answer) (m out : List ℕ) → length m ≤ 4403 → length out ≤ 4096 → length (traceLine k a m out) ≤ 17700
-unfolding traceLine
+line-most : (k : ℕ) (a : Reply) (m out : List ℕ) → length m ≤ 4403 → length out ≤ 4096 → length (traceLine k a m out) ≤ 17700
+unfolding traceLine numberColumn
 line-most k a m out h l =
     simp length-append
     (omega (arith, length-decimal k, length-decimal (a .number), order-most (a .order) m h, bytes-most (take (a .written) out), length-take (a .written) out))
 
-pub event-most : (k : ℕ) (a : Answer) (m out : List ℕ) → length m ≤ 4403 → length out ≤ 4096 → length (eventText k a m out) ≤ 17700
+pub event-most : (k : ℕ) (a : Reply) (m out : List ℕ) → length m ≤ 4403 → length out ≤ 4096 → length (eventText k a m out) ≤ 17700
 unfolding eventText
 event-most k a m out h l = go (plain a)
   where

@@ -2,8 +2,8 @@
 use crate::print;
 use control::Device;
 use control::ROOM_MIN;
-use inbox::Heard;
 use inbox::PACKETS;
+use inbox::PacketStatus;
 use link::RUN_MAX;
 use machine::Event;
 use script::Item;
@@ -65,43 +65,6 @@ fn step(
     }
 }
 
-// A byte event for each of some bytes.
-fn bytes(
-    s: Replay,
-    all: &[u8],
-    run: &mut [u8; RUN_MAX],
-    commands: &mut [u8; COMMANDS],
-    packets: &mut [u8; PACKETS],
-    out: &mut [u8],
-) -> Replay {
-    let mut t = s;
-    let mut i = 0;
-    while i < all.len() {
-        let b = all[i];
-        i += 1;
-        t = step(t, Event::Byte(b), &[], run, commands, packets, out);
-    }
-    t
-}
-
-// Some ticks.
-fn ticks(
-    s: Replay,
-    n: u64,
-    run: &mut [u8; RUN_MAX],
-    commands: &mut [u8; COMMANDS],
-    packets: &mut [u8; PACKETS],
-    out: &mut [u8],
-) -> Replay {
-    let mut t = s;
-    let mut i = 0;
-    while i < n {
-        i += 1;
-        t = step(t, Event::Tick, &[], run, commands, packets, out);
-    }
-    t
-}
-
 // So much output is lent from here on.
 fn room(s: Replay, n: u64) -> Replay {
     let device = s.device;
@@ -116,40 +79,55 @@ fn room(s: Replay, n: u64) -> Replay {
     }
 }
 
-// What a line comes to where it has one event at most.
-enum One {
-    Event(Event),
-    Nothing,
+// How many events a line has; all are its bytes.
+fn count(item: Item, all: &[u8]) -> u64 {
+    match item {
+        Item::Nothing => 0,
+        Item::Bytes(_) => all.len() as u64,
+        Item::Ticks(n) => n,
+        Item::Room(_) => 0,
+        Item::Bad => 0,
+        _ => 1,
+    }
 }
 
-// The one event of a line, or nothing.
-fn single(item: Item) -> One {
+// The byte at index i; 0 past the end.
+fn byte_at(all: &[u8], i: u64) -> u8 {
+    if i < (all.len() as u64) {
+        return all[i as usize];
+    }
+    0
+}
+
+// The event of a line with index i.
+fn event_at(item: Item, all: &[u8], i: u64) -> Event {
     match item {
-        Item::Clear => One::Event(Event::Clear),
-        Item::Busy => One::Event(Event::Busy),
-        Item::Sent(airtime) => One::Event(Event::Sent(airtime)),
-        Item::Configured => One::Event(Event::Configured),
-        Item::Fault => One::Event(Event::Fault),
+        Item::Bytes(_) => Event::Byte(byte_at(all, i)),
+        Item::Clear => Event::Clear,
+        Item::Busy => Event::Busy,
+        Item::Sent(airtime) => Event::Sent(airtime),
+        Item::Configured => Event::Configured,
+        Item::Fault => Event::Fault,
         Item::Packet {
             rssi,
             snr,
-            freq,
-            time,
-            crc,
+            freq_err,
+            timestamp_us,
+            crc_valid,
             len: _,
         } => {
-            let h = Heard {
+            let h = PacketStatus {
                 rssi,
                 snr,
-                freq,
-                time,
-                crc,
+                freq_err,
+                timestamp_us,
+                crc_valid,
             };
-            One::Event(Event::Packet(h))
+            Event::Packet(h)
         }
-        Item::Request => One::Event(Event::Request),
-        Item::Disconnect => One::Event(Event::Disconnect),
-        _ => One::Nothing,
+        Item::Request => Event::Request,
+        Item::Disconnect => Event::Disconnect,
+        _ => Event::Tick,
     }
 }
 
@@ -160,13 +138,21 @@ fn len_of(item: Item) -> usize {
         Item::Packet {
             rssi: _,
             snr: _,
-            freq: _,
-            time: _,
-            crc: _,
+            freq_err: _,
+            timestamp_us: _,
+            crc_valid: _,
             len,
         } => len,
         _ => 0,
     }
+}
+
+// A line that is no event: so much output is lent from here on.
+fn roomed(s: Replay, item: Item) -> Replay {
+    if let Item::Room(n) = item {
+        return room(s, n);
+    }
+    s
 }
 
 // Runs the events of a line; memory has its bytes.
@@ -179,18 +165,14 @@ pub(crate) fn run(
     packets: &mut [u8; PACKETS],
     out: &mut [u8],
 ) -> Replay {
-    if let Item::Room(n) = item {
-        return room(s, n);
-    }
     let all = buffer::part(memory, 0, len_of(item));
-    if let Item::Bytes(_) = item {
-        return bytes(s, all, run, commands, packets, out);
+    let n = count(item, all);
+    let mut t = roomed(s, item);
+    let mut i = 0;
+    while i < n {
+        let e = event_at(item, all, i);
+        i += 1;
+        t = step(t, e, all, run, commands, packets, out);
     }
-    if let Item::Ticks(n) = item {
-        return ticks(s, n, run, commands, packets, out);
-    }
-    if let One::Event(e) = single(item) {
-        return step(s, e, all, run, commands, packets, out);
-    }
-    s
+    t
 }

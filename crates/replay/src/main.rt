@@ -338,9 +338,9 @@ fn scripts(
 fn main() {
     let mut line = empty_line();
     let mut bytes = empty_bytes();
-    let mut run = link::empty_run();
-    let mut commands = slot::empty_commands();
-    let mut packets = inbox::empty_packets();
+    let mut run = [0u8; RUN_MAX];
+    let mut commands = [0u8; COMMANDS];
+    let mut packets = [0u8; PACKETS];
     let mut out = io::buffer();
     let mut piece = io::large_buffer();
     if os::arg_count() < 2 {

@@ -1,6 +1,6 @@
 // The trace, line by line. What a line has is the crate trace's.
 use crate::event::ROOM_MAX;
-use control::Answer;
+use control::Reply;
 use libc::STDERR_FILENO;
 use libc::STDOUT_FILENO;
 use slot::COMMANDS;
@@ -20,7 +20,7 @@ fn flush(text: &[u8], n: usize) {
 }
 
 // Writes the line of an event, unless its answer is plain.
-pub(crate) fn note(index: u64, a: Answer, commands: &[u8; COMMANDS], out: &[u8]) {
+pub(crate) fn note(index: u64, a: Reply, commands: &[u8; COMMANDS], out: &[u8]) {
     if trace::is_plain(a) {
         return;
     }

@@ -9,7 +9,7 @@ use borrow.Author.Tests.{lt-ltb, le-ltb, ltb-true, ltb-false}
 use lib.Dec.{ltb}
 use lib.ListN.{length, take, drop, length-append}
 use Rattle.buffer.specs.Lay.{lay}
-use Rattle.scalar.specs.Scalars.{le, number, column, get, i16, i32, signed}
+use Rattle.scalar.specs.Scalars.{le, number, column, get, sign16, sign32, signed}
 use Rattle.scalar.proofs.Laws.{signed-back, number-le}
 use Rattle.form.specs.declared.Form.{Form}
 use Rattle.form.specs.declared.Form.the-variants as F
@@ -24,9 +24,9 @@ unfolding rxOf rxBytes lay le
 rx-back m r bs =
     λ i.
     record {
-      rssi = signed-back 2 i16 refl (m .rssi) (r .rssi) i;
-      snr = signed-back 2 i16 refl (m .snr) (r .snr) i;
-      «freq_err» = signed-back 4 i32 refl (m .«freq_err») (r .«freq_err») i;
+      rssi = signed-back 2 sign16 refl (m .rssi) (r .rssi) i;
+      snr = signed-back 2 sign16 refl (m .snr) (r .snr) i;
+      «freq_err» = signed-back 4 sign32 refl (m .«freq_err») (r .«freq_err») i;
       «timestamp_us» = number-le 8 (m .«timestamp_us») (r .«timestamp_us») i;
       «crc_valid» = number-le 1 (m .«crc_valid») (r .«crc_valid») i;
       «packets_dropped» = number-le 2 (m .«packets_dropped») (r .«packets_dropped») i;
@@ -93,9 +93,9 @@ rx-size p n e = subst (sized Whole) e (go (ltb (length p) 20) (ltb 275 (length p
 -- ---- P's columns, offset and size
 
 pub columns : (p : List ℕ)
-    → (rxOf p .rssi ≡ signed i16 (number (take 2 (drop 0 p))))
-    × (rxOf p .snr ≡ signed i16 (number (take 2 (drop 2 p))))
-    × (rxOf p .«freq_err» ≡ signed i32 (number (take 4 (drop 4 p))))
+    → (rxOf p .rssi ≡ signed sign16 (number (take 2 (drop 0 p))))
+    × (rxOf p .snr ≡ signed sign16 (number (take 2 (drop 2 p))))
+    × (rxOf p .«freq_err» ≡ signed sign32 (number (take 4 (drop 4 p))))
     × (rxOf p .«timestamp_us» ≡ number (take 8 (drop 8 p)))
     × (rxOf p .«crc_valid» ≡ number (take 1 (drop 16 p)))
     × (rxOf p .«packets_dropped» ≡ number (take 2 (drop 17 p)))

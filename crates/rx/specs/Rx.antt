@@ -5,7 +5,7 @@ use mathlib.Core.Bool.{cond}
 use mathlib.Core.List.{List}
 use lib.Dec.{ltb}
 use lib.ListN.{length, replicate, drop}
-use Rattle.scalar.specs.Scalars.{i16, i32, signed, unsigned, Column, column, get, put}
+use Rattle.scalar.specs.Scalars.{sign16, sign32, signed, unsigned, Column, column, get, put}
 use Rattle.kind.specs.Kinds.{packetMax}
 use Rattle.form.specs.declared.Form.{Form}
 use Rattle.form.specs.declared.Form.the-variants as F
@@ -18,20 +18,20 @@ rssi = column 0 2
 abbrev snr : Column
 snr = column 2 2
 
-abbrev freq-err : Column
-freq-err = column 4 4
+abbrev «freq_err» : Column
+«freq_err» = column 4 4
 
-abbrev timestamp-us : Column
-timestamp-us = column 8 8
+abbrev «timestamp_us» : Column
+«timestamp_us» = column 8 8
 
-abbrev crc-valid : Column
-crc-valid = column 16 1
+abbrev «crc_valid» : Column
+«crc_valid» = column 16 1
 
 abbrev pub dropped-at : ℕ
 dropped-at = 17
 
-abbrev packets-dropped : Column
-packets-dropped = column dropped-at 2
+abbrev «packets_dropped» : Column
+«packets_dropped» = column dropped-at 2
 
 abbrev origin : Column
 origin = column 19 1
@@ -44,7 +44,7 @@ unfoldable pub rxForm : List ℕ → Form
 rxForm p =
     cond (ltb (length p) rxSize) F.Wrong
     (cond (ltb (rxSize + packetMax) (length p)) F.Wrong
-    (cond (ltb 1 (get crc-valid p)) F.Wrong
+    (cond (ltb 1 (get «crc_valid» p)) F.Wrong
     (cond (ltb 1 (get origin p)) F.Wrong
     (F.Size (length p)))))
 
@@ -52,12 +52,12 @@ rxForm p =
 unfoldable pub rxOf : List ℕ → Rx
 rxOf p =
     record {
-      rssi = signed i16 (get rssi p);
-      snr = signed i16 (get snr p);
-      «freq_err» = signed i32 (get freq-err p);
-      «timestamp_us» = get timestamp-us p;
-      «crc_valid» = get crc-valid p;
-      «packets_dropped» = get packets-dropped p;
+      rssi = signed sign16 (get rssi p);
+      snr = signed sign16 (get snr p);
+      «freq_err» = signed sign32 (get «freq_err» p);
+      «timestamp_us» = get «timestamp_us» p;
+      «crc_valid» = get «crc_valid» p;
+      «packets_dropped» = get «packets_dropped» p;
       origin = get origin p;
     }
 
@@ -68,11 +68,11 @@ rxPacket p = drop rxSize p
 -- the bytes before the packet
 unfoldable pub rxBytes : Rx → List ℕ
 rxBytes m =
-    put rssi (unsigned i16 (m .rssi))
-    (put snr (unsigned i16 (m .snr))
-    (put freq-err (unsigned i32 (m .«freq_err»))
-    (put timestamp-us (m .«timestamp_us»)
-    (put crc-valid (m .«crc_valid»)
-    (put packets-dropped (m .«packets_dropped»)
+    put rssi (unsigned sign16 (m .rssi))
+    (put snr (unsigned sign16 (m .snr))
+    (put «freq_err» (unsigned sign32 (m .«freq_err»))
+    (put «timestamp_us» (m .«timestamp_us»)
+    (put «crc_valid» (m .«crc_valid»)
+    (put «packets_dropped» (m .«packets_dropped»)
     (put origin (m .origin)
     (replicate rxSize 0)))))))

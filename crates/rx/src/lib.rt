@@ -48,7 +48,7 @@ pub fn rx_form(payload: &[u8]) -> Form
     Form::Size(payload.len())
 }
 
-// The fields in a payload. A helper of the crates above: they show that the bytes are there.
+// The fields in a payload. Internal: callers prove that the bytes are there.
 pub fn rx_of(payload: &[u8]) -> Rx
     requires { ⌜ rxSize ≤ length (now payload) ⌝ }
     ensures { λ r. ⌜ r ≡ rxOf (now (payload .entry)) ⌝ }

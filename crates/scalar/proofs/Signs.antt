@@ -105,14 +105,14 @@ module _ (n : Width) {x : ℤ} (fits : SFits n x) where
           ap (λ (z : ℤ). z +ℤ pos k) (toZ-ofZ widened ∙ same)
           ∙ raised k x (let l = leb→le (half n) k least in omega (arith, fits .sfits)) (rw same at t)
 
-      few : k - suc (mag x) < all n
-      few = let l = leb→le k (all n) most in let m = leb→le (half n) k least in omega (arith, fits .sfits)
+      bounded : k - suc (mag x) < all n
+      bounded = let l = leb→le k (all n) most in let m = leb→le (half n) k least in omega (arith, fits .sfits)
 
       pub sum-fits : SFits w (again w (again n x) +ℤ pos k)
-      sum-fits = subst (SFits w) (sym sum) record { sfits = let r = room n w wide in let f = few in omega arith }
+      sum-fits = subst (SFits w) (sym sum) record { sfits = let r = room n w wide in let f = bounded in omega arith }
 
       pub sum-cast : T (nonNeg (again w (again w (again n x) +ℤ pos k))) × Fits n (natAbs (again w (again w (again n x) +ℤ pos k)))
-      sum-cast = cast-to (again w (again w (again n x) +ℤ pos k)) (k - suc (mag x)) (toZ-ofZ sum-fits ∙ sum) few
+      sum-cast = cast-to (again w (again w (again n x) +ℤ pos k)) (k - suc (mag x)) (toZ-ofZ sum-fits ∙ sum) bounded
 
     -- by all of them
     module _ (t : ltZ (again n x) (pos 0) ≡ true) where

@@ -19,14 +19,14 @@ number [] = 0
 number (b ∷ bs) = b + 256 * number bs
 
 -- Two's complement: `half` of the numbers are not below zero, and as many are. i8, i16 and i32 by their halves.
-abbrev pub i8 : ℕ
-i8 = 0x80
+abbrev pub sign8 : ℕ
+sign8 = 0x80
 
-abbrev pub i16 : ℕ
-i16 = 0x8000
+abbrev pub sign16 : ℕ
+sign16 = 0x8000
 
-abbrev pub i32 : ℕ
-i32 = 0x80000000
+abbrev pub sign32 : ℕ
+sign32 = 0x80000000
 
 -- a signed number as the unsigned one with the same bytes; negsuc n is -(n + 1)
 unfoldable pub unsigned : ℕ → ℤ → ℕ

@@ -1,10 +1,10 @@
 // Numbers in a payload: P 5.1. Each stands low byte first, a signed one in two's complement.
-// Helpers of the crates above: those that read show that the bytes are there.
+// Internal: callers of those that read prove that the bytes are there.
 ghost use mathlib.Core.Path.{_≡_};
 ghost use mathlib.Core.List.{[], _∷_};
 ghost use Prim.Native.Nat.{_+_, _≤_};
 ghost use lib.ListN.{length};
-ghost use Rattle.scalar.specs.Scalars.{le, i8, i16, i32, unsigned, signed, column, get};
+ghost use Rattle.scalar.specs.Scalars.{le, sign8, sign16, sign32, unsigned, signed, column, get};
 
 // The u16 at index at.
 pub fn u16_at(s: &[u8], at: usize) -> u16
@@ -82,7 +82,7 @@ pub fn bytes_of_u64(x: u64) -> Eight
 
 // The i8 with the byte u.
 pub fn i8_of(u: u8) -> i8
-    ensures { λ r. ⌜ r ≡ signed i8 u ⌝ }
+    ensures { λ r. ⌜ r ≡ signed sign8 u ⌝ }
 {
     if u < 0x80 {
         return u as i8;
@@ -93,7 +93,7 @@ pub fn i8_of(u: u8) -> i8
 
 // The i16 with the bytes of u.
 pub fn i16_of(u: u16) -> i16
-    ensures { λ r. ⌜ r ≡ signed i16 u ⌝ }
+    ensures { λ r. ⌜ r ≡ signed sign16 u ⌝ }
 {
     if u < 0x8000 {
         return u as i16;
@@ -104,7 +104,7 @@ pub fn i16_of(u: u16) -> i16
 
 // The i32 with the bytes of u.
 pub fn i32_of(u: u32) -> i32
-    ensures { λ r. ⌜ r ≡ signed i32 u ⌝ }
+    ensures { λ r. ⌜ r ≡ signed sign32 u ⌝ }
 {
     if u < 0x80000000 {
         return u as i32;
@@ -115,7 +115,7 @@ pub fn i32_of(u: u32) -> i32
 
 // The byte of an i8.
 pub fn u8_of(x: i8) -> u8
-    ensures { λ r. ⌜ r ≡ unsigned i8 x ⌝ }
+    ensures { λ r. ⌜ r ≡ unsigned sign8 x ⌝ }
 {
     if x < 0 {
         let wide = x as i16;
@@ -126,7 +126,7 @@ pub fn u8_of(x: i8) -> u8
 
 // The u16 with the bytes of an i16.
 pub fn u16_of(x: i16) -> u16
-    ensures { λ r. ⌜ r ≡ unsigned i16 x ⌝ }
+    ensures { λ r. ⌜ r ≡ unsigned sign16 x ⌝ }
 {
     if x < 0 {
         let wide = x as i32;
@@ -137,7 +137,7 @@ pub fn u16_of(x: i16) -> u16
 
 // The u32 with the bytes of an i32.
 pub fn u32_of(x: i32) -> u32
-    ensures { λ r. ⌜ r ≡ unsigned i32 x ⌝ }
+    ensures { λ r. ⌜ r ≡ unsigned sign32 x ⌝ }
 {
     if x < 0 {
         let wide = x as i64;

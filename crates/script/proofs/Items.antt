@@ -13,15 +13,16 @@ use Rattle.script.specs.declared.number.Number.the-variants.{Value, Bad}
 use Rattle.script.specs.declared.item.Item.the-variants as I
 use Rattle.script.specs.declared.item.Bytes.the-variants as B
 use Rattle.script.specs.Words.{word, others, same, wordsFrom}
-use Rattle.script.specs.Numbers.{decimal}
-use Rattle.script.specs.Items.{more, one, bytes, leading, byteItem, packetItem, packetBytes, plainItem, named, namedBytes, itemOf, itemBytes, bare, comment, lineItem, lineBytes}
+use Rattle.script.specs.Numbers.{decimalIn}
+use Rattle.script.specs.Items.{anyWords, one, bytes, leading, byteItem, packetItem, packetBytes, plainItem}
+use Rattle.script.specs.Items.{namedItem, namedBytes, itemOf, itemBytes, withoutReturn, comment, lineItem, lineBytes}
 use Rattle.script.proofs.Words.{some}
 use Rattle.script.proofs.Numbers.{decimal-within}
 
 pub one-within : (most : ℕ) (ws : List (List ℕ)) (n : ℕ) → one most ws ≡ Value n → n ≤ most
-one-within most ws n e = go (more (others ws)) e
+one-within most ws n e = go (anyWords (others ws)) e
   where
-    go : (t : Bool) → cond t Bad (decimal most (word ws)) ≡ Value n → n ≤ most
+    go : (t : Bool) → cond t Bad (decimalIn most (word ws)) ≡ Value n → n ≤ most
     go true q = let z : _≡_ {A = ℕ} 0 1 = cc in absurd (omega arith)
     go false q = decimal-within most (word ws) n q
 
@@ -41,7 +42,7 @@ module _ (room : ℕ) (ws : List (List ℕ)) where
   line-none e = (rw e, rw e)
 
 module _ (room : ℕ) (ws : List (List ℕ)) (h : length (word ws) ≡ 0 → ⊥) where
-  item-named : itemOf room ws ≡ named room (word ws) (others ws)
+  item-named : itemOf room ws ≡ namedItem room (word ws) (others ws)
   item-named = ap (itemOf room) (some ws h)
 
   bytes-named : itemBytes room ws ≡ namedBytes room (word ws) (others ws)
@@ -49,13 +50,13 @@ module _ (room : ℕ) (ws : List (List ℕ)) (h : length (word ws) ≡ 0 → ⊥
 
   pub line-byte : same (word ws) (text "byte") ≡ true
       → (itemOf room ws ≡ byteItem room (others ws)) × (itemBytes room ws ≡ take room (leading (others ws)))
-  unfolding named namedBytes
+  unfolding namedItem namedBytes
   line-byte b = (item-named ∙ simp b, bytes-named ∙ simp b)
 
   module _ (b : same (word ws) (text "byte") ≡ false) where
     pub line-packet : same (word ws) (text "packet") ≡ true
         → (itemOf room ws ≡ packetItem room (others ws)) × (itemBytes room ws ≡ packetBytes room (others ws))
-    unfolding named namedBytes
+    unfolding namedItem namedBytes
     line-packet p = (item-named ∙ simp (b, p), bytes-named ∙ simp (b, p))
 
     module _ (p : same (word ws) (text "packet") ≡ false) where
@@ -64,26 +65,26 @@ module _ (room : ℕ) (ws : List (List ℕ)) (h : length (word ws) ≡ 0 → ⊥
       line-without = bytes-named ∙ simp (b, p)
 
       pub line-plain : itemOf room ws ≡ plainItem (word ws) (others ws)
-      unfolding named
+      unfolding namedItem
       line-plain = item-named ∙ simp (b, p)
 
 -- ---- a carriage return at the end
 
-pub bare-return : (l : List ℕ) (n : ℕ) → length l ≡ suc n → getD l n 0 ≡ code "\r" → bare l ≡ take n l
-unfolding bare
-bare-return [] n h e = absurd (omega arith)
-bare-return (c ∷ []) zero h e = simp (eq-eqb c _ e)
-bare-return (c ∷ []) (suc n) h e = absurd (omega arith)
-bare-return (c ∷ d ∷ s) zero h e = absurd (omega arith)
-bare-return (c ∷ d ∷ s) (suc n) h e = ap (λ (l : List ℕ). c ∷ l) (bare-return (d ∷ s) n (omega (arith, h)) e)
+pub return-left-out : (l : List ℕ) (n : ℕ) → length l ≡ suc n → getD l n 0 ≡ code "\r" → withoutReturn l ≡ take n l
+unfolding withoutReturn
+return-left-out [] n h e = absurd (omega arith)
+return-left-out (c ∷ []) zero h e = simp (eq-eqb c _ e)
+return-left-out (c ∷ []) (suc n) h e = absurd (omega arith)
+return-left-out (c ∷ d ∷ s) zero h e = absurd (omega arith)
+return-left-out (c ∷ d ∷ s) (suc n) h e = ap (λ (l : List ℕ). c ∷ l) (return-left-out (d ∷ s) n (omega (arith, h)) e)
 
-pub bare-other : (l : List ℕ) (n : ℕ) → length l ≡ suc n → (getD l n 0 ≡ code "\r" → ⊥) → bare l ≡ l
-unfolding bare
-bare-other [] n h e = absurd (omega arith)
-bare-other (c ∷ []) zero h e = simp (ne-eqb c _ e)
-bare-other (c ∷ []) (suc n) h e = absurd (omega arith)
-bare-other (c ∷ d ∷ s) zero h e = absurd (omega arith)
-bare-other (c ∷ d ∷ s) (suc n) h e = ap (λ (l : List ℕ). c ∷ l) (bare-other (d ∷ s) n (omega (arith, h)) e)
+pub no-return : (l : List ℕ) (n : ℕ) → length l ≡ suc n → (getD l n 0 ≡ code "\r" → ⊥) → withoutReturn l ≡ l
+unfolding withoutReturn
+no-return [] n h e = absurd (omega arith)
+no-return (c ∷ []) zero h e = simp (ne-eqb c _ e)
+no-return (c ∷ []) (suc n) h e = absurd (omega arith)
+no-return (c ∷ d ∷ s) zero h e = absurd (omega arith)
+no-return (c ∷ d ∷ s) (suc n) h e = ap (λ (l : List ℕ). c ∷ l) (no-return (d ∷ s) n (omega (arith, h)) e)
 
 -- ---- a comment
 
@@ -96,6 +97,6 @@ no-comment [] e = refl
 no-comment (c ∷ l) e = ne-eqb c _ e
 
 pub empty-line : (room : ℕ) (l : List ℕ) → length l ≡ 0 → (lineItem room l ≡ I.Nothing) × (lineBytes room l ≡ [])
-unfolding wordsFrom bare
+unfolding wordsFrom withoutReturn
 empty-line room [] h = (refl, refl)
 empty-line room (c ∷ l) h = absurd (omega arith)

@@ -12,9 +12,9 @@ use lib.ListN.{length, drop, getD}
 use Rattle.buffer.proofs.Laws.{next, no-more}
 use Rattle.script.specs.declared.number.Number.{Number}
 use Rattle.script.specs.declared.number.Number.the-variants.{Value, Bad}
-use Rattle.script.specs.Numbers.{within, allDigits, value, upTo, decimal, minus, signed, nibble, pair, byteOf}
+use Rattle.script.specs.Numbers.{between, allDigits, value, upTo, decimalIn, minus, signedIn, nibble, pair, byteOf}
 
-module _ (a b c : ℕ) (e : within a b c ≡ true) where
+module _ (a b c : ℕ) (e : between a b c ≡ true) where
   pub within-from : a ≤ c
   within-from = go (ltb c a) refl e
     where
@@ -33,13 +33,13 @@ module _ (a b c : ℕ) (e : within a b c ≡ true) where
 abbrev pub reading : ℕ → ℕ → List ℕ → Number
 reading most n s = cond (allDigits s) (upTo most (value n s)) Bad
 
-pub reads : (most : ℕ) (w : List ℕ) → (length w ≡ 0 → ⊥) → decimal most w ≡ reading most 0 w
-unfolding decimal
+pub reads : (most : ℕ) (w : List ℕ) → (length w ≡ 0 → ⊥) → decimalIn most w ≡ reading most 0 w
+unfolding decimalIn
 reads most [] h = absurd (h refl)
 reads most (c ∷ w) h = refl
 
-pub reads-none : (most : ℕ) (w : List ℕ) → length w ≡ 0 → decimal most w ≡ Bad
-unfolding decimal
+pub reads-none : (most : ℕ) (w : List ℕ) → length w ≡ 0 → decimalIn most w ≡ Bad
+unfolding decimalIn
 reads-none most [] h = refl
 reads-none most (c ∷ w) h = absurd (omega arith)
 
@@ -58,18 +58,18 @@ too-high most n s h = go (allDigits s) (lt-leb (value n s) most (omega (arith, g
 
 module _ (most n : ℕ) (w : List ℕ) (i : ℕ) (h : i < length w) where
   -- a digit
-  pub reads-on : within (code "0") (code "9") (getD w i 0) ≡ true
+  pub reads-on : between (code "0") (code "9") (getD w i 0) ≡ true
       → reading most n (drop i w) ≡ reading most (n * 10 + (getD w i 0 - code "0")) (drop (i + 1) w)
   unfolding allDigits value
   reads-on e = rw (next w i h) (simp e)
 
   -- a digit that makes it too high
-  pub reads-high : within (code "0") (code "9") (getD w i 0) ≡ true → most < n * 10 + (getD w i 0 - code "0")
+  pub reads-high : between (code "0") (code "9") (getD w i 0) ≡ true → most < n * 10 + (getD w i 0 - code "0")
       → reading most n (drop i w) ≡ Bad
   reads-high e k = reads-on e ∙ too-high most _ _ k
 
   -- none
-  pub reads-other : within (code "0") (code "9") (getD w i 0) ≡ false → reading most n (drop i w) ≡ Bad
+  pub reads-other : between (code "0") (code "9") (getD w i 0) ≡ false → reading most n (drop i w) ≡ Bad
   unfolding allDigits
   reads-other e = rw (next w i h) (simp e)
 
@@ -80,19 +80,19 @@ reads-end most n w i h k = rw (no-more w i h) (simp (le-leb n most k))
 
 -- ---- with a sign
 
-pub signs-none : (half : ℕ) (w : List ℕ) → length w ≡ 0 → signed half w ≡ Bad
-unfolding signed
+pub signs-none : (half : ℕ) (w : List ℕ) → length w ≡ 0 → signedIn half w ≡ Bad
+unfolding signedIn
 signs-none half [] h = refl
 signs-none half (c ∷ w) h = absurd (omega arith)
 
 module _ (half : ℕ) where
-  pub signs-plus : (w : List ℕ) → (length w ≡ 0 → ⊥) → (getD w 0 0 ≡ code "-" → ⊥) → signed half w ≡ decimal (half - 1) w
-  unfolding signed
+  pub signs-plus : (w : List ℕ) → (length w ≡ 0 → ⊥) → (getD w 0 0 ≡ code "-" → ⊥) → signedIn half w ≡ decimalIn (half - 1) w
+  unfolding signedIn
   signs-plus [] h e = absurd (h refl)
   signs-plus (c ∷ w) h e = simp (ne-eqb c _ e)
 
-  pub signs-minus : (w : List ℕ) → (length w ≡ 0 → ⊥) → getD w 0 0 ≡ code "-" → signed half w ≡ minus half (decimal half (drop 1 w))
-  unfolding signed
+  pub signs-minus : (w : List ℕ) → (length w ≡ 0 → ⊥) → getD w 0 0 ≡ code "-" → signedIn half w ≡ minus half (decimalIn half (drop 1 w))
+  unfolding signedIn
   signs-minus [] h e = absurd (h refl)
   signs-minus (c ∷ w) h e = simp (eq-eqb c _ e)
 
@@ -105,8 +105,8 @@ minus-more half zero h = absurd (h refl)
 minus-more half (suc n) h = ap Value (omega arith)
 
 -- a number is not above what it may be
-pub decimal-within : (most : ℕ) (w : List ℕ) (n : ℕ) → decimal most w ≡ Value n → n ≤ most
-unfolding decimal
+pub decimal-within : (most : ℕ) (w : List ℕ) (n : ℕ) → decimalIn most w ≡ Value n → n ≤ most
+unfolding decimalIn
 decimal-within most [] n e = let z : _≡_ {A = ℕ} 0 1 = cc in absurd (omega arith)
 decimal-within most (c ∷ w) n e = go (allDigits (c ∷ w)) (leb (value 0 (c ∷ w)) most) refl e
   where
@@ -130,8 +130,8 @@ byte-two (a ∷ b ∷ []) h = refl
 byte-two (a ∷ b ∷ c ∷ w) h = absurd (omega arith)
 
 -- a signed number, in two's complement, is a number of its type
-pub signed-within : (half : ℕ) (w : List ℕ) (n : ℕ) → 0 < half → signed half w ≡ Value n → n < half + half
-unfolding signed
+pub signed-within : (half : ℕ) (w : List ℕ) (n : ℕ) → 0 < half → signedIn half w ≡ Value n → n < half + half
+unfolding signedIn
 signed-within half [] n h e = let z : _≡_ {A = ℕ} 0 1 = cc in absurd (omega arith)
 signed-within half (c ∷ w) n h e = go (eqb c (code "-")) e
   where
@@ -140,6 +140,6 @@ signed-within half (c ∷ w) n h e = go (eqb c (code "-")) e
     below (Value (suc k)) q = let m : half + half - suc k ≡ n = cc in omega (arith, h, m)
     below Bad q = let z : _≡_ {A = ℕ} 0 1 = cc in absurd (omega arith)
 
-    go : (t : Bool) → cond t (minus half (decimal half w)) (decimal (half - 1) (c ∷ w)) ≡ Value n → n < half + half
-    go true q = below (decimal half w) q
+    go : (t : Bool) → cond t (minus half (decimalIn half w)) (decimalIn (half - 1) (c ∷ w)) ≡ Value n → n < half + half
+    go true q = below (decimalIn half w) q
     go false q = omega (arith, h, decimal-within (half - 1) (c ∷ w) n q)

@@ -12,8 +12,8 @@ use lib.ListN.{length, take, drop, getD, length-take, length-drop}
 use lib.Seq.{drop-drop}
 use Rattle.buffer.proofs.Laws.{next, no-more}
 use Rattle.buffer.proofs.Deciding.{same as same-number}
-use Rattle.script.specs.Items.{more}
-use Rattle.script.specs.Words.{blank, whole, wordsFrom, words, word, others, lead, span, used, same}
+use Rattle.script.specs.Items.{anyWords}
+use Rattle.script.specs.Words.{blank, wordSoFar, wordsFrom, words, word, others, lead, span, used, same}
 
 -- ---- one byte more of a loop
 
@@ -162,14 +162,14 @@ used-most s =
     let t = drop (lead s) s in
     rw (← first-is s) (simp length-take (omega arith))
 
-pub more-is : (s : List ℕ) → ltb 0 (length (word (words s))) ≡ more (words s)
+pub more-is : (s : List ℕ) → ltb 0 (length (word (words s))) ≡ anyWords (words s)
 more-is s = ⊎-elim (λ e. none-is e) (λ h. some-is h) (same-number (length (word (words s))) 0)
   where
-    none-is : length (word (words s)) ≡ 0 → ltb 0 (length (word (words s))) ≡ more (words s)
+    none-is : length (word (words s)) ≡ 0 → ltb 0 (length (word (words s))) ≡ anyWords (words s)
     none-is e = rw (none s e)
 
-    some-is : (length (word (words s)) ≡ 0 → ⊥) → ltb 0 (length (word (words s))) ≡ more (words s)
-    some-is h = lt-ltb 0 (length (word (words s))) (omega (arith, h)) ∙ sym (ap more (some (words s) h))
+    some-is : (length (word (words s)) ≡ 0 → ⊥) → ltb 0 (length (word (words s))) ≡ anyWords (words s)
+    some-is h = lt-ltb 0 (length (word (words s))) (omega (arith, h)) ∙ sym (ap anyWords (some (words s) h))
 
 -- ---- word by word
 

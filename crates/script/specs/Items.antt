@@ -17,18 +17,18 @@ use Rattle.script.specs.declared.item.Head.the-variants as H
 use Rattle.script.specs.declared.item.Bytes.{Bytes}
 use Rattle.script.specs.declared.item.Bytes.the-variants as B
 use Rattle.script.specs.Words.{words, word, others, same}
-use Rattle.script.specs.Numbers.{decimal, signed, byteOf}
+use Rattle.script.specs.Numbers.{decimalIn, signedIn, byteOf}
 
 -- ---- what follows a line's name
 
 -- whether there are words
-abbrev pub more : List (List ℕ) → Bool
-more [] = false
-more (w ∷ ws) = true
+abbrev pub anyWords : List (List ℕ) → Bool
+anyWords [] = false
+anyWords (w ∷ ws) = true
 
 -- one word, that is a number up to most, and no other
 abbrev pub one : ℕ → List (List ℕ) → Number
-one most ws = cond (more (others ws)) N.Bad (decimal most (word ws))
+one most ws = cond (anyWords (others ws)) N.Bad (decimalIn most (word ws))
 
 -- the highest u32 and u64
 abbrev pub max32 : ℕ
@@ -54,7 +54,7 @@ ticks (N.Value n) = I.Ticks n
 ticks N.Bad = I.Bad
 
 abbrev pub tickItem : List (List ℕ) → Item
-tickItem ws = cond (more ws) (ticks (one max64 ws)) (I.Ticks 1)
+tickItem ws = cond (anyWords ws) (ticks (one max64 ws)) (I.Ticks 1)
 
 -- sent N
 abbrev pub sents : Number → Item
@@ -82,12 +82,12 @@ abbrev pub byteItem : ℕ → List (List ℕ) → Item
 byteItem room ws = bytes (countOf room ws)
 
 -- packet RSSI SNR FREQ TIME CRC HH ..: an i16, an i16, an i32, a u64, 0 or 1, and bytes
-abbrev pub crcOf : ℕ → ℕ → ℕ → ℕ → Number → Head
-crcOf a b c d (N.Value e) = H.Good a b c d (eqb e 1)
-crcOf a b c d N.Bad = H.Bad
+abbrev pub crcValidOf : ℕ → ℕ → ℕ → ℕ → Number → Head
+crcValidOf a b c d (N.Value e) = H.Good a b c d (eqb e 1)
+crcValidOf a b c d N.Bad = H.Bad
 
 abbrev pub timeOf : ℕ → ℕ → ℕ → Number → Number → Head
-timeOf a b c (N.Value d) e = crcOf a b c d e
+timeOf a b c (N.Value d) e = crcValidOf a b c d e
 timeOf a b c N.Bad e = H.Bad
 
 abbrev pub freqOf : ℕ → ℕ → Number → Number → Number → Head
@@ -102,13 +102,13 @@ abbrev pub rssiOf : Number → Number → Number → Number → Number → Head
 rssiOf (N.Value a) b c d e = snrOf a b c d e
 rssiOf N.Bad b c d e = H.Bad
 
-abbrev pub headOf : List ℕ → List ℕ → List ℕ → List ℕ → List ℕ → Head
-headOf a b c d e = rssiOf (signed S.i16 a) (signed S.i16 b) (signed S.i32 c) (decimal max64 d) (decimal 1 e)
+abbrev pub packetHead : List ℕ → List ℕ → List ℕ → List ℕ → List ℕ → Head
+packetHead a b c d e = rssiOf (signedIn S.sign16 a) (signedIn S.sign16 b) (signedIn S.sign32 c) (decimalIn max64 d) (decimalIn 1 e)
 
 -- the head of some words, where a word that is missing is no number, and what follows it
 abbrev pub headIn : List (List ℕ) → Head
 headIn ws =
-    headOf (word ws)
+    packetHead (word ws)
     (word (others ws))
     (word (others (others ws)))
     (word (others (others (others ws))))
@@ -118,7 +118,7 @@ abbrev pub tailIn : List (List ℕ) → List (List ℕ)
 tailIn ws = others (others (others (others (others ws))))
 
 abbrev pub packets : Head → Bytes → Item
-packets (H.Good a b c d e) (B.Count n) = I.Packet (S.signed S.i16 a) (S.signed S.i16 b) (S.signed S.i32 c) d e n
+packets (H.Good a b c d e) (B.Count n) = I.Packet (S.signed S.sign16 a) (S.signed S.sign16 b) (S.signed S.sign32 c) d e n
 packets (H.Good a b c d e) B.Bad = I.Bad
 packets H.Bad n = I.Bad
 
@@ -150,11 +150,11 @@ plainItem w ws =
     cond (same w (text "tick")) (tickItem ws)
     (cond (same w (text "sent")) (sentItem ws)
     (cond (same w (text "room")) (roomItem ws)
-    (cond (more ws) I.Bad (nameItem w))))
+    (cond (anyWords ws) I.Bad (nameItem w))))
 
 -- a line with this name and these words after it, where there is room for so many bytes
-unfoldable pub named : ℕ → List ℕ → List (List ℕ) → Item
-named room w ws =
+unfoldable pub namedItem : ℕ → List ℕ → List (List ℕ) → Item
+namedItem room w ws =
     cond (same w (text "byte")) (byteItem room ws)
     (cond (same w (text "packet")) (packetItem room ws) (plainItem w ws))
 
@@ -166,17 +166,17 @@ namedBytes room w ws =
 
 abbrev pub itemOf : ℕ → List (List ℕ) → Item
 itemOf room [] = I.Nothing
-itemOf room (w ∷ ws) = named room w ws
+itemOf room (w ∷ ws) = namedItem room w ws
 
 abbrev pub itemBytes : ℕ → List (List ℕ) → List ℕ
 itemBytes room [] = []
 itemBytes room (w ∷ ws) = namedBytes room w ws
 
 -- a line without a carriage return at its end
-unfoldable pub bare : List ℕ → List ℕ
-bare [] = []
-bare (c ∷ []) = cond (eqb c (code "\r")) [] (c ∷ [])
-bare (c ∷ d ∷ s) = c ∷ bare (d ∷ s)
+unfoldable pub withoutReturn : List ℕ → List ℕ
+withoutReturn [] = []
+withoutReturn (c ∷ []) = cond (eqb c (code "\r")) [] (c ∷ [])
+withoutReturn (c ∷ d ∷ s) = c ∷ withoutReturn (d ∷ s)
 
 -- whether it is a comment: `#` stands in its first column
 abbrev pub comment : List ℕ → Bool
@@ -184,7 +184,7 @@ comment [] = false
 comment (c ∷ s) = eqb c (code "#")
 
 abbrev pub lineItem : ℕ → List ℕ → Item
-lineItem room line = cond (comment line) I.Nothing (itemOf room (words (bare line)))
+lineItem room line = cond (comment line) I.Nothing (itemOf room (words (withoutReturn line)))
 
 abbrev pub lineBytes : ℕ → List ℕ → List ℕ
-lineBytes room line = cond (comment line) [] (itemBytes room (words (bare line)))
+lineBytes room line = cond (comment line) [] (itemBytes room (words (withoutReturn line)))

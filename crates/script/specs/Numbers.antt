@@ -9,14 +9,14 @@ use Rattle.script.specs.declared.number.Number.{Number}
 use Rattle.script.specs.declared.number.Number.the-variants.{Value, Bad}
 
 -- whether a character stands from a to b
-abbrev pub within : ℕ → ℕ → ℕ → Bool
-within a b c = cond (ltb c a) false (leb c b)
+abbrev pub between : ℕ → ℕ → ℕ → Bool
+between a b c = cond (ltb c a) false (leb c b)
 
 -- ---- decimal
 
 unfoldable pub allDigits : List ℕ → Bool
 allDigits [] = true
-allDigits (c ∷ s) = cond (within (code "0") (code "9") c) (allDigits s) false
+allDigits (c ∷ s) = cond (between (code "0") (code "9") c) (allDigits s) false
 
 -- the value of some digits that come after the number n
 unfoldable pub value : ℕ → List ℕ → ℕ
@@ -28,9 +28,9 @@ abbrev pub upTo : ℕ → ℕ → Number
 upTo most n = cond (leb n most) (Value n) Bad
 
 -- a word as a decimal number up to most: a digit or more, of which the first may be zeros
-unfoldable pub decimal : ℕ → List ℕ → Number
-decimal most [] = Bad
-decimal most (c ∷ s) = cond (allDigits (c ∷ s)) (upTo most (value 0 (c ∷ s))) Bad
+unfoldable pub decimalIn : ℕ → List ℕ → Number
+decimalIn most [] = Bad
+decimalIn most (c ∷ s) = cond (allDigits (c ∷ s)) (upTo most (value 0 (c ∷ s))) Bad
 
 -- -n in two's complement, where half of the numbers are below zero
 abbrev pub minus : ℕ → Number → Number
@@ -39,18 +39,18 @@ minus half (Value (suc n)) = Value (half + half - suc n)
 minus half Bad = Bad
 
 -- a word as a signed number, from -half to half - 1
-unfoldable pub signed : ℕ → List ℕ → Number
-signed half [] = Bad
-signed half (c ∷ s) = cond (eqb c (code "-")) (minus half (decimal half s)) (decimal (half - 1) (c ∷ s))
+unfoldable pub signedIn : ℕ → List ℕ → Number
+signedIn half [] = Bad
+signedIn half (c ∷ s) = cond (eqb c (code "-")) (minus half (decimalIn half s)) (decimalIn (half - 1) (c ∷ s))
 
 -- ---- hexadecimal
 
 -- the value of a digit, in either case; 16 if it is none
 abbrev pub nibble : ℕ → ℕ
 nibble c =
-    cond (within (code "0") (code "9") c) (c - code "0")
-    (cond (within (code "A") (code "F") c) (c - code "A" + 10)
-    (cond (within (code "a") (code "f") c) (c - code "a" + 10) 16))
+    cond (between (code "0") (code "9") c) (c - code "0")
+    (cond (between (code "A") (code "F") c) (c - code "A" + 10)
+    (cond (between (code "a") (code "f") c) (c - code "a" + 10) 16))
 
 -- the byte of two digits
 abbrev pub pair : ℕ → ℕ → ℕ

@@ -12,14 +12,14 @@ abbrev pub blank : ℕ → Bool
 blank c = cond (eqb c (code " ")) true (eqb c (code "\t"))
 
 -- the bytes that came since the last blank, as a word
-abbrev pub whole : List ℕ → List (List ℕ)
-whole [] = []
-whole (c ∷ w) = (c ∷ w) ∷ []
+abbrev pub wordSoFar : List ℕ → List (List ℕ)
+wordSoFar [] = []
+wordSoFar (c ∷ w) = (c ∷ w) ∷ []
 
 -- the words of a text, where the bytes w came before it since the last blank
 unfoldable pub wordsFrom : List ℕ → List ℕ → List (List ℕ)
-wordsFrom w [] = whole w
-wordsFrom w (c ∷ s) = cond (blank c) (whole w) [] ++ wordsFrom (cond (blank c) [] (w ++ (c ∷ []))) s
+wordsFrom w [] = wordSoFar w
+wordsFrom w (c ∷ s) = cond (blank c) (wordSoFar w) [] ++ wordsFrom (cond (blank c) [] (w ++ (c ∷ []))) s
 
 abbrev pub words : List ℕ → List (List ℕ)
 words s = wordsFrom [] s

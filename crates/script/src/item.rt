@@ -3,7 +3,8 @@ ghost use mathlib.Core.Path.{_≡_};
 ghost use lib.ListN.{length};
 ghost use Rattle.buffer.specs.Lay.{lay};
 ghost use Rattle.script.specs.Words.{words};
-ghost use Rattle.script.specs.Items.{more, one, headIn, tailIn, headOf, countOf, leading, nameItem, byteItem, packets, packetItem, packetBytes, tickItem, sentItem, roomItem, plainItem, itemOf, itemBytes, lineItem, lineBytes};
+ghost use Rattle.script.specs.Items.{anyWords, one, headIn, tailIn, packetHead, countOf, leading, nameItem, byteItem, packets, packetItem};
+ghost use Rattle.script.specs.Items.{packetBytes, tickItem, sentItem, roomItem, plainItem, itemOf, itemBytes, lineItem, lineBytes};
 ghost use lib.ListN.{take};
 use crate::number;
 use crate::number::Number;
@@ -27,9 +28,9 @@ pub enum Item {
     Packet {
         rssi: i16,
         snr: i16,
-        freq: i32,
-        time: u64,
-        crc: bool,
+        freq_err: i32,
+        timestamp_us: u64,
+        crc_valid: bool,
         len: usize,
     },
     Request,
@@ -45,9 +46,9 @@ enum Head {
     Good {
         rssi: u16,
         snr: u16,
-        freq: u32,
-        time: u64,
-        crc: bool,
+        freq_err: u32,
+        timestamp_us: u64,
+        crc_valid: bool,
     },
     Bad,
 }
@@ -117,7 +118,7 @@ fn plain(name: &[u8], args: &[u8]) -> Item
 
 // Whether there is a word.
 fn is_more(s: &[u8]) -> bool
-    ensures { λ r. ⌜ r ≡ more (words (now (s .entry))) ⌝ }
+    ensures { λ r. ⌜ r ≡ anyWords (words (now (s .entry))) ⌝ }
 {
     let w = word::first(s);
     0 < w.len()
@@ -216,9 +217,9 @@ fn packet(args: &[u8], memory: &mut [u8]) -> Item
     let Head::Good {
         rssi: _,
         snr: _,
-        freq: _,
-        time: _,
-        crc: _,
+        freq_err: _,
+        timestamp_us: _,
+        crc_valid: _,
     } = h
     else {
         return Item::Bad;
@@ -226,19 +227,19 @@ fn packet(args: &[u8], memory: &mut [u8]) -> Item
     let Bytes::Count(len) = all_bytes(tail_in(args), memory) else {
         return Item::Bad;
     };
-    heard(h, len)
+    received(h, len)
 }
 
 // A packet with so many bytes.
-fn heard(h: Head, len: usize) -> Item
+fn received(h: Head, len: usize) -> Item
     ensures { λ r. ⌜ r ≡ packets h (Bytes.Count len) ⌝ }
 {
     let Head::Good {
         rssi,
         snr,
-        freq,
-        time,
-        crc,
+        freq_err,
+        timestamp_us,
+        crc_valid,
     } = h
     else {
         return Item::Bad;
@@ -246,9 +247,9 @@ fn heard(h: Head, len: usize) -> Item
     Item::Packet {
         rssi: scalar::i16_of(rssi),
         snr: scalar::i16_of(snr),
-        freq: scalar::i32_of(freq),
-        time,
-        crc,
+        freq_err: scalar::i32_of(freq_err),
+        timestamp_us,
+        crc_valid,
         len,
     }
 }
@@ -278,8 +279,9 @@ fn tail_in(args: &[u8]) -> &[u8]
 }
 
 // The numbers of a packet's line.
-fn head_of(rssi: &[u8], snr: &[u8], freq: &[u8], time: &[u8], crc: &[u8]) -> Head
-    ensures { λ r. ⌜ r ≡ headOf (now (rssi .entry)) (now (snr .entry)) (now (freq .entry)) (now (time .entry)) (now (crc .entry)) ⌝ }
+fn head_of(rssi: &[u8], snr: &[u8], freq_err: &[u8], timestamp_us: &[u8], crc_valid: &[u8]) -> Head
+    ensures { λ r. ⌜ r
+        ≡ packetHead (now (rssi .entry)) (now (snr .entry)) (now («freq_err» .entry)) (now («timestamp_us» .entry)) (now («crc_valid» .entry)) ⌝ }
 {
     let Number::Value(a) = number::signed(rssi, 0x8000) else {
         return Head::Bad;
@@ -287,21 +289,21 @@ fn head_of(rssi: &[u8], snr: &[u8], freq: &[u8], time: &[u8], crc: &[u8]) -> Hea
     let Number::Value(b) = number::signed(snr, 0x8000) else {
         return Head::Bad;
     };
-    let Number::Value(c) = number::signed(freq, 0x80000000) else {
+    let Number::Value(c) = number::signed(freq_err, 0x80000000) else {
         return Head::Bad;
     };
-    let Number::Value(d) = number::decimal(time, 0xFFFFFFFFFFFFFFFF) else {
+    let Number::Value(d) = number::decimal(timestamp_us, 0xFFFFFFFFFFFFFFFF) else {
         return Head::Bad;
     };
-    let Number::Value(e) = number::decimal(crc, 1) else {
+    let Number::Value(e) = number::decimal(crc_valid, 1) else {
         return Head::Bad;
     };
     Head::Good {
         rssi: a as u16,
         snr: b as u16,
-        freq: c as u32,
-        time: d,
-        crc: e == 1,
+        freq_err: c as u32,
+        timestamp_us: d,
+        crc_valid: e == 1,
     }
 }
 

@@ -1,7 +1,7 @@
 // Numbers in a script: decimal ones, with a sign or without, and bytes in hexadecimal.
 ghost use mathlib.Core.Path.{_≡_};
 ghost use Prim.Native.Nat.{_+_, _<_, _≤_};
-ghost use Rattle.script.specs.Numbers.{within, decimal, signed, nibble, byteOf};
+ghost use Rattle.script.specs.Numbers.{between, decimalIn, signedIn, nibble, byteOf};
 
 // What a word is worth.
 pub(crate) enum Number {
@@ -12,7 +12,7 @@ pub(crate) enum Number {
 
 // Whether a character stands from a to b.
 fn is_within(a: u8, b: u8, c: u8) -> bool
-    ensures { λ r. ⌜ r ≡ within a b c ⌝ }
+    ensures { λ r. ⌜ r ≡ between a b c ⌝ }
 {
     if c < a {
         return false;
@@ -22,7 +22,7 @@ fn is_within(a: u8, b: u8, c: u8) -> bool
 
 // A word as a decimal number up to most.
 pub(crate) fn decimal(word: &[u8], most: u64) -> Number
-    ensures { λ r. ⌜ r ≡ decimal most (now (word .entry)) ⌝ }
+    ensures { λ r. ⌜ r ≡ decimalIn most (now (word .entry)) ⌝ }
 {
     if word.len() == 0 {
         return Number::Bad;
@@ -51,7 +51,7 @@ pub(crate) fn decimal(word: &[u8], most: u64) -> Number
 // two's complement.
 pub(crate) fn signed(word: &[u8], half: u64) -> Number
     requires { ⌜ (1 ≤ half) × (half ≤ 0x80000000) ⌝ }
-    ensures { λ r. ⌜ r ≡ signed half (now (word .entry)) ⌝ }
+    ensures { λ r. ⌜ r ≡ signedIn half (now (word .entry)) ⌝ }
 {
     if word.len() == 0 {
         return Number::Bad;

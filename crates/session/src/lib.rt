@@ -1,24 +1,24 @@
 // Two of the ten events, by which a session ends: tick and disconnect. 01 "What each event does".
 ghost use mathlib.Core.Path.{_≡_};
-ghost use Rattle.control.specs.Control.{doneAt, Tells};
+ghost use Rattle.control.specs.Control.{doneAt, Returns};
 ghost use Rattle.session.specs.Session.{ended, endSession, tickOut, disconnectOut};
 use control::Air;
-use control::Answer;
 use control::Device;
 use control::Link;
 use control::Mode;
 use control::Order;
 use control::ROOM_MIN;
 use control::Radio;
+use control::Reply;
 use control::Taken;
-use numbers::ROOM;
+use status::ROOM;
 
 // The tick that makes the liveness count this ends the session.
 const TICKS_MAX: u16 = 1000;
 
 // A millisecond. It writes nothing, and asks only for the room that an event's output must have.
-pub fn tick(d: Device, room: usize) -> Answer
-    ensures { λ r. ⌜ Tells (tickOut room d) r ⌝ }
+pub fn tick(d: Device, room: usize) -> Reply
+    ensures { λ r. ⌜ Returns (tickOut room d) r ⌝ }
 {
     if room < ROOM_MIN {
         return control::refuse(d, ROOM);
@@ -42,8 +42,8 @@ pub fn tick(d: Device, room: usize) -> Answer
 }
 
 // The host is gone. It writes nothing.
-pub fn disconnect(d: Device, room: usize) -> Answer
-    ensures { λ r. ⌜ Tells (disconnectOut room d) r ⌝ }
+pub fn disconnect(d: Device, room: usize) -> Reply
+    ensures { λ r. ⌜ Returns (disconnectOut room d) r ⌝ }
 {
     if room < ROOM_MIN {
         return control::refuse(d, ROOM);
@@ -81,7 +81,7 @@ fn end_session(d: Device) -> Taken
     let was = d.air;
     let before = was.radio;
     let radio = ended(before);
-    let inbox = control::deaf(d.inbox);
+    let inbox = control::clear_reception(d.inbox);
     let link = Link {
         session: false,
         ticks: 0,

@@ -1,6 +1,7 @@
--- The memory of commands: seventeen slots of 259 bytes. Sixteen hold the TX that are with the radio or wait, in a ring, and the last one the SET_CONFIG that waits or
--- runs. A slot has the command's payload with its length, less one, and its tag before it: so of a TX the packet's length, the tag, the flags and the packet, and of a
--- SET_CONFIG the parameters' length, the tag, the modulation and the parameters.
+-- The memory of commands: seventeen slots of 259 bytes. Sixteen hold the TX that are with the radio or wait, in a ring, and the
+-- last one the SET_CONFIG that waits or runs. A slot has the command's payload with its length, less one, and its tag before it: so
+-- of a TX the packet's length, the tag, the flags and the packet, and of a SET_CONFIG the parameters' length, the tag, the
+-- modulation and the parameters.
 -- Assumes nothing.
 use Prim.Native.Nat.{ℕ, _+_, _-_, _*_}
 use mathlib.Core.List.{List, _∷_, _++_}
@@ -37,8 +38,8 @@ abbrev pub slotBytes : ℕ → List ℕ → List ℕ
 slotBytes t p = (length p - 1) ∷ (le 2 t ++ p)
 
 -- the memory m with a command in slot k
-unfoldable pub kept : List ℕ → ℕ → ℕ → List ℕ → List ℕ
-kept m k t p = lay (k * slotSize) (slotBytes t p) m
+unfoldable pub commandKept : List ℕ → ℕ → ℕ → List ℕ → List ℕ
+commandKept m k t p = lay (k * slotSize) (slotBytes t p) m
 
 -- what stands in slot k: the length without the payload's first byte, the tag, that first byte, and the payload
 abbrev pub lenAt : List ℕ → ℕ → ℕ

@@ -1,10 +1,10 @@
 // The memory of the commands that were taken and are not done, in slots: sixteen for TX, and one for
-// the SET_CONFIG that waits or runs. Helpers of the events.
+// the SET_CONFIG that waits or runs. Internal to the events.
 ghost use mathlib.Core.Path.{_≡_};
 ghost use Prim.Native.Nat.{_+_, _≤_, _<_};
-ghost use lib.ListN.{length, getD, replicate};
+ghost use lib.ListN.{length, getD};
 ghost use Rattle.buffer.specs.Lay.{lay};
-ghost use Rattle.slot.specs.Slots.{keptMax, payload-at, setting, commandsSize, slotBytes, kept};
+ghost use Rattle.slot.specs.Slots.{keptMax, payload-at, setting, slotBytes, commandKept};
 use board::TX_MAX;
 use command::FLAGS_SIZE;
 use kind::PACKET_MAX;
@@ -22,18 +22,11 @@ pub const SETTING: usize = TX_MAX;
 // The memory of commands: seventeen slots.
 pub const COMMANDS: usize = (SETTING + 1) * SLOT_SIZE;
 
-// The memory of commands at power-up.
-pub fn empty_commands() -> [u8; COMMANDS]
-    ensures { λ r. ⌜ r ≡ replicate commandsSize 0 ⌝ }
-{
-    [0; COMMANDS]
-}
-
 // Puts a command into a slot.
 pub fn keep(slot: usize, tag: u16, payload: &[u8], commands: &mut [u8; COMMANDS])
     requires { ⌜ slot ≤ setting ⌝ }
     requires { ⌜ (1 ≤ length (now payload)) × (length (now payload) ≤ keptMax) ⌝ }
-    ensures { λ _. ⌜ now (commands .exit) ≡ kept (now (commands .entry)) slot tag (now (payload .entry)) ⌝ }
+    ensures { λ _. ⌜ now (commands .exit) ≡ commandKept (now (commands .entry)) slot tag (now (payload .entry)) ⌝ }
 {
     put(slot * SLOT_SIZE, tag, payload, commands);
 }

@@ -30,8 +30,9 @@ spelled (suc k) (suc (suc j)) n h f =
     let g : suc j - 1 ≡ j = omega arith in
     let least : 10 ^ suc j ≤ n = rw e at (f .2 (omega arith)) in
     let many : 10 ≤ n = omega (arith, one-le-pow j 10 (lit< tt)) in
-    let front = spelled k (suc j) (n / 10) (omega arith)
-    (omega arith, div-lt-iff-lt-mul {k = 10} {x = n} {y = 10 ^ suc j} (lit< tt) .1 (omega (arith, f .1)), λ _. le-div-iff-mul-le {k = 10} {x = 10 ^ (suc j - 1)} {y = n} (lit< tt) .1 (rw g (omega arith))) in
+    let below = div-lt-iff-lt-mul {k = 10} {x = n} {y = 10 ^ suc j} (lit< tt) .1 (omega (arith, f .1)) in
+    let above = le-div-iff-mul-le {k = 10} {x = 10 ^ (suc j - 1)} {y = n} (lit< tt) .1 (rw g (omega arith)) in
+    let front = spelled k (suc j) (n / 10) (omega arith) (omega arith, below, λ _. above) in
     simp (le-ltb n 10 many) (ap₂ (λ (ds : List ℕ) (d : ℕ). ds ++ (d ∷ [])) front (same-digit n))
 
 pub fewest : (n r : ℕ) → n < 2 ^ 64 → Fewest 10 1 n r → digits 10 r n ≡ decimal n

@@ -1,5 +1,5 @@
 // Text in lent memory: each function writes from an index on, and answers where what it wrote ends.
-// Helpers of the crates above: they show that there is room.
+// Internal: callers prove that there is room.
 ghost use mathlib.Core.Path.{_≡_};
 ghost use Prim.Native.Nat.{_+_, _≤_, _<_};
 ghost use lib.ListN.{length};

@@ -7,7 +7,7 @@ use mathlib.Core.List.{List, [], _∷_, _++_}
 use lib.Dec.{eqb}
 use lib.ListN.{take, drop}
 use Rattle.text.specs.Text.{text, decimal, hex}
-use Rattle.control.specs.declared.Answer.{Answer}
+use Rattle.control.specs.declared.Reply.{Reply}
 use Rattle.control.specs.declared.Order.{Order}
 use Rattle.control.specs.declared.Order.the-variants as O
 
@@ -20,7 +20,7 @@ none (O.Transmit at len listen) = false
 none O.Receive = false
 
 -- number 0, no bytes, order none
-abbrev pub plain : Answer → Bool
+abbrev pub plain : Reply → Bool
 plain a = cond (eqb (a .number) 0) (cond (eqb (a .written) 0) (none (a .order)) false) false
 
 -- 1 or 0, and a slash
@@ -44,12 +44,16 @@ bytesText (b ∷ bs) = hex (b ∷ bs)
 abbrev pub lineEnd : List ℕ → List ℕ
 lineEnd bs = text " " ++ (bytesText bs ++ text "\n")
 
--- the line of the event with index k, of which out has what it wrote
-unfoldable pub traceLine : ℕ → Answer → List ℕ → List ℕ → List ℕ
-traceLine k a m out =
-    decimal k ++ (text " " ++ (decimal (a .number) ++ (text " " ++ (orderText (a .order) m ++ lineEnd (take (a .written) out)))))
+-- a column that is a number, and the space after it
+unfoldable pub numberColumn : ℕ → List ℕ
+numberColumn n = decimal n ++ text " "
 
-unfoldable pub eventText : ℕ → Answer → List ℕ → List ℕ → List ℕ
+-- the line of the event with index k, of which out has what it wrote
+unfoldable pub traceLine : ℕ → Reply → List ℕ → List ℕ → List ℕ
+traceLine k a m out =
+    numberColumn k ++ (numberColumn (a .number) ++ (orderText (a .order) m ++ lineEnd (take (a .written) out)))
+
+unfoldable pub eventText : ℕ → Reply → List ℕ → List ℕ → List ℕ
 eventText k a m out = cond (plain a) [] (traceLine k a m out)
 
 -- a line of a name and a number

@@ -1,14 +1,14 @@
 // A line of a trace. Each function writes from an index on, and answers where what it wrote ends.
-// Helpers of the crates above: they show that there is room.
+// Internal: callers prove that there is room.
 ghost use mathlib.Core.Path.{_≡_};
 ghost use Prim.Native.Nat.{ℕ, _+_, _≤_};
 ghost use mathlib.Core.List.{List, _++_};
 ghost use lib.ListN.{length, take, drop};
 ghost use Rattle.buffer.specs.Lay.{lay};
 ghost use Rattle.text.specs.Text.{hex};
-ghost use Rattle.trace.specs.Traces.{none, plain, orderText, bytesText, lineEnd, traceLine, eventText, countLine, badLine, eventsLine};
-use control::Answer;
+ghost use Rattle.trace.specs.Traces.{none, plain, orderText, bytesText, lineEnd, numberColumn, traceLine, eventText, countLine, badLine, eventsLine};
 use control::Order;
+use control::Reply;
 
 // The most letters that an order starts with: configure, its flag and two slashes.
 const START_MAX: usize = 12;
@@ -43,7 +43,7 @@ fn is_none(o: Order) -> bool
 }
 
 // Whether an answer is plain: taken, with nothing written and no order.
-pub fn is_plain(a: Answer) -> bool
+pub fn is_plain(a: Reply) -> bool
     ensures { λ r. ⌜ r ≡ plain a ⌝ }
 {
     if a.number != 0 {
@@ -151,24 +151,32 @@ fn put_end(bytes: &[u8], dst: &mut [u8], from: usize) -> usize
     text::put(b"\n", dst, end)
 }
 
+// Writes a column that is a number, and the space after it.
+fn put_column(n: u64, dst: &mut [u8], from: usize) -> usize
+    requires { ⌜ from + length (numberColumn n) ≤ length (now dst) ⌝ }
+    ensures { λ r. ⌜ r ≡ from + length (numberColumn n) ⌝ }
+    ensures { λ r. ⌜ now (dst .exit) ≡ lay from (numberColumn n) (now (dst .entry)) ⌝ }
+{
+    let end = text::decimal(n, dst, from);
+    text::put(b" ", dst, end)
+}
+
 // Writes the line of the event with index k.
-fn put_line(k: u64, a: Answer, commands: &[u8], out: &[u8], dst: &mut [u8], from: usize) -> usize
+fn put_line(k: u64, a: Reply, commands: &[u8], out: &[u8], dst: &mut [u8], from: usize) -> usize
     requires { ⌜ from + length (traceLine k a (now commands) (now out)) ≤ length (now dst) ⌝ }
     ensures { λ r. ⌜ r ≡ from + length (traceLine k a (now (commands .entry)) (now (out .entry))) ⌝ }
     ensures { λ r. ⌜ now (dst .exit) ≡ lay from (traceLine k a (now (commands .entry)) (now (out .entry))) (now (dst .entry)) ⌝ }
 {
-    let index = text::decimal(k, dst, from);
-    let space = text::put(b" ", dst, index);
-    let number = text::decimal(a.number as u64, dst, space);
-    let next = text::put(b" ", dst, number);
+    let index = put_column(k, dst, from);
+    let number = put_column(a.number as u64, dst, index);
     let o = a.order;
-    let ordered = put_order(o, commands, dst, next);
+    let ordered = put_order(o, commands, dst, number);
     put_end(buffer::part(out, 0, a.written), dst, ordered)
 }
 
 // Writes the line of the event with index k, if its answer is not plain: out has what the event
 // wrote, and commands is the memory of commands.
-pub fn event(k: u64, a: Answer, commands: &[u8], out: &[u8], dst: &mut [u8], from: usize) -> usize
+pub fn event(k: u64, a: Reply, commands: &[u8], out: &[u8], dst: &mut [u8], from: usize) -> usize
     requires { ⌜ from + length (eventText k a (now commands) (now out)) ≤ length (now dst) ⌝ }
     ensures { λ r. ⌜ r ≡ from + length (eventText k a (now (commands .entry)) (now (out .entry))) ⌝ }
     ensures { λ r. ⌜ now (dst .exit) ≡ lay from (eventText k a (now (commands .entry)) (now (out .entry))) (now (dst .entry)) ⌝ }

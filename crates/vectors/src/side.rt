@@ -10,8 +10,8 @@ use frame::Opened;
 use frame::PAYLOAD;
 use frame::Written;
 use kind::Name;
-use numbers::TAKEN;
-use verdict::Kinds;
+use status::TAKEN;
+use wellformed::Kinds;
 
 // How many bytes were written: none where the writer refused.
 fn written(w: Written) -> usize {
@@ -25,7 +25,7 @@ fn written(w: Written) -> usize {
 fn number_of(w: Written) -> u8 {
     match w {
         Written::Done(_) => TAKEN,
-        Written::Refused(r) => numbers::refusal_number(r),
+        Written::Refused(r) => status::refusal_number(r),
     }
 }
 
@@ -115,7 +115,7 @@ fn is_answer(a: Answer, name: Name, tag: u16, bytes: &[u8], run: &[u8]) -> bool 
 // Whether a frame, whatever message it holds, has this type, tag and payload.
 fn is_wrong(kind: u8, tag: u16, payload: &[u8], run: &[u8]) -> bool {
     let mut memory = [0u8; FRAME_MAX];
-    let opened = open::open(run, &mut memory);
+    let opened = frame::open(run, &mut memory);
     let Opened::Body {
         kind: k,
         tag: t,

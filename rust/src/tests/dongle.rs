@@ -1,6 +1,6 @@
 use super::host::{err, keep, kept, plain, Ordered};
 use super::{hex, run, FSK, LORA};
-use crate::{cobs_decode, read_answer, Command, Dongle, Heard, Origin, Refusal, Rx};
+use crate::{cobs_decode, read_answer, Command, Dongle, Origin, PacketStatus, Refusal, Rx};
 use crate::{ENCODED_MAX, OUT};
 
 const EPARAM: u16 = 1;
@@ -253,17 +253,17 @@ fn the_longest_output() {
 
 /// No value changes its place on the way from the radio to the host.
 #[test]
-fn what_was_heard_is_delivered() {
+fn a_status_is_delivered() {
     let mut dongle = Dongle::receiving();
     for crc_valid in [false, true] {
-        let heard = Heard {
+        let status = PacketStatus {
             rssi: i16::MIN,
             snr: 0x1234,
             freq_err: i32::MIN + 5,
             timestamp_us: 0x8102_0304_0506_0708,
             crc_valid,
         };
-        assert_eq!(dongle.packet(heard, &[0]).map(keep), plain());
+        assert_eq!(dongle.packet(status, &[0]).map(keep), plain());
         dongle.delivers(|rx| {
             assert_eq!((rx.rssi, rx.snr), (i16::MIN, 0x1234));
             assert_eq!(rx.freq_err, i32::MIN + 5);

@@ -1,7 +1,7 @@
 //! A dongle's host and radio: events whose answers are kept, and what they should be.
 
 use super::{hex, run, LORA};
-use crate::{read_rx, write_command, Answer, Command, Dongle, Heard, Order, Refusal, Rx};
+use crate::{read_rx, write_command, Answer, Command, Dongle, Order, PacketStatus, Refusal, Rx};
 use crate::{ENCODED_MAX, OUT};
 
 /// An answer with copies of its bytes.
@@ -89,7 +89,7 @@ impl Dongle {
     }
 
     pub(super) fn on_packet(&mut self, bytes: &[u8]) -> Result<Kept, Refusal> {
-        self.packet(HEARD, bytes).map(keep)
+        self.packet(STATUS, bytes).map(keep)
     }
 
     /// So many milliseconds, of which all but the last answer plainly.
@@ -155,7 +155,7 @@ impl Dongle {
 }
 
 /// P C.2.6.
-pub(super) const HEARD: Heard = Heard {
+pub(super) const STATUS: PacketStatus = PacketStatus {
     rssi: -735,
     snr: 95,
     freq_err: -125,

@@ -23,7 +23,10 @@ rx-form-requires c κs = search needs
 returns-3 : tie.Need-returns-3
 unfolding answerForm
 returns-3 c =
-    rw (ne-eqb _ _ (c .before .before .before .if1 .left), ne-eqb _ _ (c .before .before .if2 .left), eq-eqb _ _ (c .before .if3 .taken)) (c .rx-form .ensures)
+    let if1 = c .before .before .before .if1 in
+    let if2 = c .before .before .if2 in
+    let if3 = c .before .if3 in
+    rw (ne-eqb _ _ (if1 .left), ne-eqb _ _ (if2 .left), eq-eqb _ _ (if3 .taken)) (c .rx-form .ensures)
 
 tx-done-form-requires : tie.Need-tx-done-form-requires
 tx-done-form-requires c κs = search needs
@@ -31,7 +34,10 @@ tx-done-form-requires c κs = search needs
 returns-4 : tie.Need-returns-4
 unfolding answerForm
 returns-4 c =
-    rw (ne-eqb _ _ (c .before .before .before .if1 .left), ne-eqb _ _ (c .before .before .if2 .left), ne-eqb _ _ (c .before .if3 .left)) (c .tx-done-form .ensures)
+    let if1 = c .before .before .before .if1 in
+    let if2 = c .before .before .if2 in
+    let if3 = c .before .if3 in
+    rw (ne-eqb _ _ (if1 .left), ne-eqb _ _ (if2 .left), ne-eqb _ _ (if3 .left)) (c .tx-done-form .ensures)
 
 pub answer-form-spec : {M : Type 1} → statement M
 answer-form-spec =

@@ -23,8 +23,10 @@ shared-slice-read-if2 c = search needs
 returns-2 : tie.Need-returns-2
 unfolding configuredForm
 returns-2 c =
-    let p = c .before .before .before .before .args .payload .now in
-    rw (le-ltb _ _ (c .before .before .if1 .left), ← get-byte 0 p (omega arith), lt-ltb _ _ (c .if2 .taken))
+    let start = c .before .before .before .before in
+    let if1 = c .before .before .if1 in
+    let p = start .args .payload .now in
+    rw (le-ltb _ _ (if1 .left), ← get-byte 0 p (omega arith), lt-ltb _ _ (c .if2 .taken))
 
 shared-slice-read-if3 : tie.Need-shared-slice-read-if3
 shared-slice-read-if3 c = search needs
@@ -32,8 +34,11 @@ shared-slice-read-if3 c = search needs
 returns-3 : tie.Need-returns-3
 unfolding configuredForm
 returns-3 c =
-    let p = c .before .before .before .before .before .before .args .payload .now in
-    rw (le-ltb _ _ (c .before .before .before .before .if1 .left), ← get-byte 0 p (omega arith), le-ltb _ _ (c .before .before .if2 .left), ← get-byte 1 p (omega arith), lt-ltb _ _ (c .if3 .taken))
+    let start = c .before .before .before .before .before .before in
+    let if1 = c .before .before .before .before .if1 in
+    let if2 = c .before .before .if2 in
+    let p = start .args .payload .now in
+    rw (le-ltb _ _ (if1 .left), ← get-byte 0 p (omega arith), le-ltb _ _ (if2 .left), ← get-byte 1 p (omega arith), lt-ltb _ _ (c .if3 .taken))
 
 sub-config-form : tie.Need-sub-config-form
 sub-config-form c = search needs
@@ -52,7 +57,9 @@ enum-known-n c = search needs
 
 add-t13 : tie.Need-add-t13
 add-t13 c =
-    omega (arith, form-bounds _ _ (sym (c .before .before .before .config-form .ensures) ∙ c .before .n .given .1))
+    let config-form = c .before .before .before .config-form in
+    let n = c .before .n in
+    omega (arith, form-bounds _ _ (sym (config-form .ensures) ∙ n .given .1))
 
 enum-told : tie.Need-enum-told
 enum-told c = search needs
@@ -60,16 +67,27 @@ enum-told c = search needs
 returns-4 : tie.Need-returns-4
 unfolding configuredForm
 returns-4 c =
-    let p = c .before .before .before .before .before .before .before .before .before .before .before .args .payload .now in
-    let e = ap configForm (sym (part-to-end p 2)) ∙ sym (c .before .before .before .config-form .ensures) ∙ c .before .n .given .1 in
-    rw (le-ltb _ _ (c .before .before .before .before .before .before .before .before .before .if1 .left), ← get-byte 0 p (omega arith), le-ltb _ _ (c .before .before .before .before .before .before .before .if2 .left), ← get-byte 1 p (omega arith), le-ltb _ _ (c .before .before .before .before .before .if3 .left), e)
+    let start = c .before .before .before .before .before .before .before .before .before .before .before in
+    let if1 = c .before .before .before .before .before .before .before .before .before .if1 in
+    let if2 = c .before .before .before .before .before .before .before .if2 in
+    let if3 = c .before .before .before .before .before .if3 in
+    let config-form = c .before .before .before .config-form in
+    let n = c .before .n in
+    let p = start .args .payload .now in
+    let e = ap configForm (sym (part-to-end p 2)) ∙ sym (config-form .ensures) ∙ n .given .1 in
+    rw (le-ltb _ _ (if1 .left), ← get-byte 0 p (omega arith), le-ltb _ _ (if2 .left), ← get-byte 1 p (omega arith), le-ltb _ _ (if3 .left), e)
 
 returns-5 : tie.Need-returns-5
 unfolding configuredForm
 returns-5 c =
-    let p = c .before .before .before .before .before .before .before .before .before .before .args .payload .now in
-    let e = ap configForm (sym (part-to-end p 2)) ∙ sym (c .before .before .config-form .ensures) ∙ c .enum-told .given .1 in
-    rw (le-ltb _ _ (c .before .before .before .before .before .before .before .before .if1 .left), ← get-byte 0 p (omega arith), le-ltb _ _ (c .before .before .before .before .before .before .if2 .left), ← get-byte 1 p (omega arith), le-ltb _ _ (c .before .before .before .before .if3 .left), e)
+    let start = c .before .before .before .before .before .before .before .before .before .before in
+    let if1 = c .before .before .before .before .before .before .before .before .if1 in
+    let if2 = c .before .before .before .before .before .before .if2 in
+    let if3 = c .before .before .before .before .if3 in
+    let config-form = c .before .before .config-form in
+    let p = start .args .payload .now in
+    let e = ap configForm (sym (part-to-end p 2)) ∙ sym (config-form .ensures) ∙ c .enum-told .given .1 in
+    rw (le-ltb _ _ (if1 .left), ← get-byte 0 p (omega arith), le-ltb _ _ (if2 .left), ← get-byte 1 p (omega arith), le-ltb _ _ (if3 .left), e)
 
 pub configured-form-spec : {M : Type 1} → statement M
 configured-form-spec =

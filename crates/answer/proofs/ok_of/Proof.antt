@@ -17,35 +17,44 @@ enum-told c = search needs
 
 info-of-requires : tie.Need-info-of-requires
 info-of-requires c κs =
-    rw (c .enum-told .given .1) at (c .before .before .before .pre)
+    let start = c .before .before .before in
+    rw (c .enum-told .given .1) at (start .pre)
 
 enum-told-2 : tie.Need-enum-told-2
 enum-told-2 c = search needs
 
 sub-config-of : tie.Need-sub-config-of
 sub-config-of c =
-    configured-there (c .before .before .before .args .payload .now) (rw (c .enum-told2 .given .1) at (c .before .before .before .pre)) .0
+    let start = c .before .before .before in
+    configured-there (start .args .payload .now) (rw (c .enum-told2 .given .1) at (start .pre)) .0
 
 part-config-of-start : tie.Need-part-config-of-start
 part-config-of-start c =
-    configured-there (c .before .before .before .args .payload .now) (rw (c .enum-told2 .given .1) at (c .before .before .before .pre)) .0
+    let start = c .before .before .before in
+    configured-there (start .args .payload .now) (rw (c .enum-told2 .given .1) at (start .pre)) .0
 
 part-config-of-end : tie.Need-part-config-of-end
 part-config-of-end c = search needs
 
 config-of-requires : tie.Need-config-of-requires
 config-of-requires c κs =
-    let p = c .before .before .before .before .args .payload .now in
-    rw (part-to-end p 2) (configured-there p (rw (c .before .enum-told2 .given .1) at (c .before .before .before .before .pre)) .1)
+    let start = c .before .before .before .before in
+    let enum-told2 = c .before .enum-told2 in
+    let p = start .args .payload .now in
+    rw (part-to-end p 2) (configured-there p (rw (enum-told2 .given .1) at (start .pre)) .1)
 
 shared-slice-read-t11 : tie.Need-shared-slice-read-t11
 shared-slice-read-t11 c =
-    let h = configured-there (c .before .before .before .before .before .before .args .payload .now) (rw (c .before .before .before .enum-told2 .given .1) at (c .before .before .before .before .before .before .pre)) .0 in
+    let start = c .before .before .before .before .before .before in
+    let enum-told2 = c .before .before .before .enum-told2 in
+    let h = configured-there (start .args .payload .now) (rw (enum-told2 .given .1) at (start .pre)) .0 in
     omega arith
 
 shared-slice-read-t13 : tie.Need-shared-slice-read-t13
 shared-slice-read-t13 c =
-    let h = configured-there (c .before .before .before .before .before .before .before .args .payload .now) (rw (c .before .before .before .before .enum-told2 .given .1) at (c .before .before .before .before .before .before .before .pre)) .0 in
+    let start = c .before .before .before .before .before .before .before in
+    let enum-told2 = c .before .before .before .before .enum-told2 in
+    let h = configured-there (start .args .payload .now) (rw (enum-told2 .given .1) at (start .pre)) .0 in
     omega arith
 
 returns : tie.Need-returns
@@ -55,13 +64,16 @@ returns c =
 returns-2 : tie.Need-returns-2
 unfolding configuredOf
 returns-2 c =
-    let p = c .before .before .before .before .before .before .before .args .payload .now in
-    let h = configured-there p (rw (c .before .before .before .before .enum-told2 .given .1) at (c .before .before .before .before .before .before .before .pre)) .0 in
-    rw (c .before .before .before .before .enum-told2 .given .1)
+    let start = c .before .before .before .before .before .before .before in
+    let enum-told2 = c .before .before .before .before .enum-told2 in
+    let config-of = c .before .before .config-of in
+    let p = start .args .payload .now in
+    let h = configured-there p (rw (enum-told2 .given .1) at (start .pre)) .0 in
+    rw (enum-told2 .given .1)
     (λ i. A.Configured record {
       result = get-byte 0 p (omega arith) i;
       owner = get-byte 1 p (omega arith) i;
-      current = (c .before .before .config-of .ensures ∙ ap configOf (part-to-end p 2)) i;
+      current = (config-of .ensures ∙ ap configOf (part-to-end p 2)) i;
     })
 
 returns-3 : tie.Need-returns-3

@@ -1,7 +1,7 @@
 -- Each answer is where the chain of tests in its definition ends.
 -- Assumes nothing.
 use mathlib.Core.Path.{sym, ap, _∙_}
-use Rattle.numbers.specs.Came.{took}
+use Rattle.status.specs.Result.{took}
 use Rattle.answer.specs.Answers.{readAnswer}
 use Rattle.answer.specs.declared.Answer.{Answer}
 use borrow.Author.Needs.{needs}
@@ -23,15 +23,24 @@ answer-of-requires c κs = sym (rw (c .before .before .answer-form .ensures) at 
 returns : tie.Need-returns
 unfolding readAnswer
 returns c =
-    let e = sym (rw (c .before .before .before .answer-form .ensures) at (c .before .before .at-least .ensures)) ∙ c .before .if2 .taken in
-    let t = sym (c .before .before .before .before .before .is-answer .ensures) ∙ c .before .before .before .before .if1 .taken in
+    let is-answer = c .before .before .before .before .before .is-answer in
+    let if1 = c .before .before .before .before .if1 in
+    let answer-form = c .before .before .before .answer-form in
+    let at-least = c .before .before .at-least in
+    let if2 = c .before .if2 in
+    let e = sym (rw (answer-form .ensures) at (at-least .ensures)) ∙ if2 .taken in
+    let t = sym (is-answer .ensures) ∙ if1 .taken in
     rw (t, e) (ap (λ (m : Answer). took m) (c .answer-of .ensures))
 
 returns-2 : tie.Need-returns-2
 unfolding readAnswer
 returns-2 c =
-    let e = sym (rw (c .before .before .answer-form .ensures) at (c .before .at-least .ensures)) ∙ c .if2 .left in
-    rw (sym (c .before .before .before .before .is-answer .ensures) ∙ c .before .before .before .if1 .taken, e)
+    let is-answer = c .before .before .before .before .is-answer in
+    let if1 = c .before .before .before .if1 in
+    let answer-form = c .before .before .answer-form in
+    let at-least = c .before .at-least in
+    let e = sym (rw (answer-form .ensures) at (at-least .ensures)) ∙ c .if2 .left in
+    rw (sym (is-answer .ensures) ∙ if1 .taken, e)
 
 returns-3 : tie.Need-returns-3
 unfolding readAnswer

@@ -17,11 +17,12 @@ freq-good-requires c κs = search needs
 returns : tie.Need-returns
 unfolding sx1262
 returns c =
-    let freq = c .before .before .before .before .before .before .before .before .before .before .before .freq-good .ensures in
-    let s = c .before .before .before .before .before .before .before .before .before .before .before .before in
-    let r : LoraIn (s .args .m) = omega (arith, s .good) in
-    let power = toZ-ofZ {w = w8} {z = s .args .m .«tx_power_dbm»} record { sfits = r .«tx_power_dbm» } in
-    rw (lora-taken (s .args .m)) (simp (freq, power, and-assoc))
+    let start = c .before .before .before .before .before .before .before .before .before .before .before .before in
+    let freq-good = c .before .before .before .before .before .before .before .before .before .before .before .freq-good in
+    let freq = freq-good .ensures in
+    let r : LoraIn (start .args .m) = omega (arith, start .good) in
+    let power = toZ-ofZ {w = w8} {z = start .args .m .«tx_power_dbm»} record { sfits = r .«tx_power_dbm» } in
+    rw (lora-taken (start .args .m)) (simp (freq, power, and-assoc))
 
 pub lora-good-spec : {M : Type 1} → statement M
 lora-good-spec = tie.close (tie.spec freq-good-requires returns)

@@ -24,7 +24,10 @@ unpack-requires c κs = search needs
 
 returns-2 : tie.Need-returns-2
 unfolding openRun
-returns-2 c = simp (le-ltb _ _ (c .before .before .before .before .if1 .left)) (c .before .unpack .ensures .0)
+returns-2 c =
+    let if1 = c .before .before .before .before .if1 in
+    let unpack = c .before .unpack in
+    simp (le-ltb _ _ (if1 .left)) (unpack .ensures .0)
 
 pub open-run-spec : {M : Type 1} → statement M
 open-run-spec =

@@ -21,7 +21,10 @@ open-run-requires c κs = search needs
 line-requires : tie.Need-line-requires
 unfolding lineRun
 line-requires c κs =
-    rw (c .before .open-run .ensures) (rw (ne-eqb _ 0 (c .before .before .if1 .left)) at (c .before .before .before .before .before .pre .1))
+    let start = c .before .before .before .before .before in
+    let if1 = c .before .before .if1 in
+    let open-run = c .before .open-run in
+    rw (open-run .ensures) (rw (ne-eqb _ 0 (if1 .left)) at (start .pre .1))
 
 same-length : tie.Need-same-length
 same-length c = search needs
@@ -29,8 +32,11 @@ same-length c = search needs
 returns-2 : tie.Need-returns-2
 unfolding lineRun
 returns-2 c =
-    let e = ne-eqb _ 0 (c .before .before .before .before .before .if1 .left) in
-    rw (e, ← c .before .before .before .before .open-run .ensures) (c .before .before .line .ensures)
+    let if1 = c .before .before .before .before .before .if1 in
+    let open-run = c .before .before .before .before .open-run in
+    let line = c .before .before .line in
+    let e = ne-eqb _ 0 (if1 .left) in
+    rw (e, ← open-run .ensures) (line .ensures)
 
 pub write-line-spec : {M : Type 1} → statement M
 write-line-spec =

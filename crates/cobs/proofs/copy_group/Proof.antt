@@ -30,12 +30,15 @@ shared-slice-read-b : tie.Need-shared-slice-read-b Inv-loop μ-loop
 shared-slice-read-b c = omega arith
 
 same-length : tie.Need-same-length Inv-loop μ-loop
-same-length c = c .before .before .before .loop .inv .2 .long
+same-length c =
+    let loop = c .before .before .before .loop in
+    loop .inv .2 .long
 
 returns : tie.Need-returns Inv-loop μ-loop
 returns c =
+    let start = c .before .before .before .before .before in
     let l = c .before .before .before .loop in
-    let e = left-zero (c .before .before .before .before .before .args .src .now) (l .i) (omega arith) (omega arith) (c .if2 .taken) in
+    let e = left-zero (start .args .src .now) (l .i) (omega arith) (omega arith) (c .if2 .taken) in
     let d = rw e at (l .inv .2) in
     (omega arith, done d)
 
@@ -44,8 +47,9 @@ add-dst c = omega arith
 
 slice-write-dst : tie.Need-slice-write-dst Inv-loop μ-loop
 slice-write-dst c =
+    let start = c .before .before .before .before .before in
     let l = c .before .before .before .loop in
-    let e = left-byte (c .before .before .before .before .before .args .src .now) (l .i) (omega arith) (omega arith) (c .if2 .left) in
+    let e = left-byte (start .args .src .now) (l .i) (omega arith) (omega arith) (c .if2 .left) in
     omega (arith, rw e at (l .inv .2))
 
 add-i : tie.Need-add-i Inv-loop μ-loop
@@ -56,8 +60,9 @@ loop-less c = omega arith
 
 loop-again : tie.Need-loop-again Inv-loop μ-loop
 loop-again c =
+    let start = c .before .before .before .before .before in
     let l = c .before .before .before .loop in
-    let e = left-byte (c .before .before .before .before .before .args .src .now) (l .i) (omega arith) (omega arith) (c .if2 .left) in
+    let e = left-byte (start .args .src .now) (l .i) (omega arith) (omega arith) (c .if2 .left) in
     (l .inv .0, omega arith, rw add-assoc at (byte (rw e at (l .inv .2))))
 
 same-length-2 : tie.Need-same-length-2 Inv-loop μ-loop
@@ -65,8 +70,9 @@ same-length-2 c = c .before .loop .inv .2 .long
 
 returns-2 : tie.Need-returns-2 Inv-loop μ-loop
 returns-2 c =
+    let start = c .before .before .before in
     let l = c .before .loop in
-    let d = rw (left-done (c .before .before .before .args .src .now) (l .i) (omega arith)) at (l .inv .2) in
+    let d = rw (left-done (start .args .src .now) (l .i) (omega arith)) at (l .inv .2) in
     (omega arith, done d)
 
 pub copy-group-spec : {M : Type 1} → statement M

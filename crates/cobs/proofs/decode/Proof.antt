@@ -3,7 +3,7 @@
 use mathlib.Core.Path.{sym, ap, _∙_}
 use Prim.Native.Nat.{ℕ}
 use borrow.Author.Tests.{lt-ltb, le-ltb}
-use Rattle.numbers.specs.Came.{took}
+use Rattle.status.specs.Result.{took}
 use Rattle.cobs.specs.Answers.{decodeAnswer, decodeLeft}
 use borrow.Author.Needs.{needs}
 use Rattle.cobs.proofs.decode.Statement.{statement}
@@ -28,13 +28,20 @@ is-broken-requires c κs = search needs
 returns-3 : tie.Need-returns-3
 unfolding decodeAnswer decodeLeft
 returns-3 c =
-    let e = le-ltb _ _ (c .before .before .before .if1 .left) in
-    let f = le-ltb _ _ (c .before .before .if2 .left) in
-    let g = sym (c .before .is-broken .ensures) ∙ c .if3 .taken in
+    let if1 = c .before .before .before .if1 in
+    let if2 = c .before .before .if2 in
+    let is-broken = c .before .is-broken in
+    let e = le-ltb _ _ (if1 .left) in
+    let f = le-ltb _ _ (if2 .left) in
+    let g = sym (is-broken .ensures) ∙ c .if3 .taken in
     (simp (e, f, g), simp (e, f, g))
 
 decode-into-requires : tie.Need-decode-into-requires
-decode-into-requires c κs = (sym (c .before .before .is-broken .ensures) ∙ c .before .if3 .left, c .before .before .before .if2 .left)
+decode-into-requires c κs =
+    let if2 = c .before .before .before .if2 in
+    let is-broken = c .before .before .is-broken in
+    let if3 = c .before .if3 in
+    (sym (is-broken .ensures) ∙ if3 .left, if2 .left)
 
 same-length : tie.Need-same-length
 same-length c = search needs
@@ -42,10 +49,15 @@ same-length c = search needs
 returns-4 : tie.Need-returns-4
 unfolding decodeAnswer decodeLeft
 returns-4 c =
-    let e = le-ltb _ _ (c .before .before .before .before .before .before .before .if1 .left) in
-    let f = le-ltb _ _ (c .before .before .before .before .before .before .if2 .left) in
-    let g = sym (c .before .before .before .before .before .is-broken .ensures) ∙ c .before .before .before .before .if3 .left in
-    (simp (e, f, g) (ap (λ (n : ℕ). took n) (c .before .before .decode-into .ensures .0)), simp (e, f, g) (c .before .before .decode-into .ensures .1))
+    let if1 = c .before .before .before .before .before .before .before .if1 in
+    let if2 = c .before .before .before .before .before .before .if2 in
+    let is-broken = c .before .before .before .before .before .is-broken in
+    let if3 = c .before .before .before .before .if3 in
+    let decode-into = c .before .before .decode-into in
+    let e = le-ltb _ _ (if1 .left) in
+    let f = le-ltb _ _ (if2 .left) in
+    let g = sym (is-broken .ensures) ∙ if3 .left in
+    (simp (e, f, g) (ap (λ (n : ℕ). took n) (decode-into .ensures .0)), simp (e, f, g) (decode-into .ensures .1))
 
 pub decode-spec : {M : Type 1} → statement M
 decode-spec =

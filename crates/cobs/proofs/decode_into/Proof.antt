@@ -41,14 +41,22 @@ part-copy-end : tie.Need-part-copy-end Inv-loop μ-loop
 part-copy-end c = bounds (c .before .before .loop .inv) (c .before .loop-test .taken) .1
 
 copy-requires : tie.Need-copy-requires Inv-loop μ-loop
-copy-requires c κs = bounds (c .before .before .before .before .loop .inv) (c .before .before .before .loop-test .taken) .2
+copy-requires c κs =
+    let loop = c .before .before .before .before .loop in
+    let loop-test = c .before .before .before .loop-test in
+    bounds (loop .inv) (loop-test .taken) .2
 
 sub-w : tie.Need-sub-w Inv-loop μ-loop
-sub-w c = bounds (c .before .before .before .before .before .before .before .loop .inv) (c .before .before .before .before .before .before .loop-test .taken) .0
+sub-w c =
+    let loop = c .before .before .before .before .before .before .before .loop in
+    let loop-test = c .before .before .before .before .before .before .loop-test in
+    bounds (loop .inv) (loop-test .taken) .0
 
 add-w : tie.Need-add-w Inv-loop μ-loop
 add-w c =
-    let b = bounds (c .before .before .before .before .before .before .before .loop .inv) (c .before .before .before .before .before .before .loop-test .taken) in
+    let loop = c .before .before .before .before .before .before .before .loop in
+    let loop-test = c .before .before .before .before .before .before .loop-test in
+    let b = bounds (loop .inv) (loop-test .taken) in
     omega arith
 
 add-if1 : tie.Need-add-if1 Inv-loop μ-loop
@@ -56,37 +64,62 @@ add-if1 c = omega arith
 
 slice-write-dst : tie.Need-slice-write-dst Inv-loop μ-loop
 slice-write-dst c =
-    rw (c .before .before .before .before .copy .ensures)
-    (zero-fits (c .before .before .before .before .before .before .before .before .before .loop .inv) (c .before .before .before .before .before .before .before .before .loop-test .taken) (c .before .if1 .taken) (c .if2 .taken))
+    let loop = c .before .before .before .before .before .before .before .before .before .loop in
+    let loop-test = c .before .before .before .before .before .before .before .before .loop-test in
+    let copy = c .before .before .before .before .copy in
+    let if1 = c .before .if1 in
+    rw (copy .ensures)
+    (zero-fits (loop .inv) (loop-test .taken) (if1 .taken) (c .if2 .taken))
 
 add-w-2 : tie.Need-add-w-2 Inv-loop μ-loop
 add-w-2 c =
-    let b = bounds (c .before .before .before .before .before .before .before .before .before .loop .inv) (c .before .before .before .before .before .before .before .before .loop-test .taken) in
+    let loop = c .before .before .before .before .before .before .before .before .before .loop in
+    let loop-test = c .before .before .before .before .before .before .before .before .loop-test in
+    let b = bounds (loop .inv) (loop-test .taken) in
     omega arith
 
 loop-less : tie.Need-loop-less Inv-loop μ-loop
-loop-less c = less (c .before .before .before .before .before .before .before .before .before .loop .inv) (c .before .before .before .before .before .before .before .before .loop-test .taken)
+loop-less c =
+    let loop = c .before .before .before .before .before .before .before .before .before .loop in
+    let loop-test = c .before .before .before .before .before .before .before .before .loop-test in
+    less (loop .inv) (loop-test .taken)
 
 loop-again : tie.Need-loop-again Inv-loop μ-loop
 loop-again c =
-    rw (c .before .before .before .before .copy .ensures)
-    (turn-zero (c .before .before .before .before .before .before .before .before .before .loop .inv) (c .before .before .before .before .before .before .before .before .loop-test .taken) (c .before .if1 .taken) (c .if2 .taken))
+    let loop = c .before .before .before .before .before .before .before .before .before .loop in
+    let loop-test = c .before .before .before .before .before .before .before .before .loop-test in
+    let copy = c .before .before .before .before .copy in
+    let if1 = c .before .if1 in
+    rw (copy .ensures)
+    (turn-zero (loop .inv) (loop-test .taken) (if1 .taken) (c .if2 .taken))
 
 loop-less-2 : tie.Need-loop-less-2 Inv-loop μ-loop
-loop-less-2 c = less (c .before .before .before .before .before .before .before .before .before .loop .inv) (c .before .before .before .before .before .before .before .before .loop-test .taken)
+loop-less-2 c =
+    let loop = c .before .before .before .before .before .before .before .before .before .loop in
+    let loop-test = c .before .before .before .before .before .before .before .before .loop-test in
+    less (loop .inv) (loop-test .taken)
 
 loop-again-2 : tie.Need-loop-again-2 Inv-loop μ-loop
 loop-again-2 c =
-    rw (c .before .before .before .before .copy .ensures)
-    (turn-last (c .before .before .before .before .before .before .before .before .before .loop .inv) (c .before .before .before .before .before .before .before .before .loop-test .taken) (c .if2 .left))
+    let loop = c .before .before .before .before .before .before .before .before .before .loop in
+    let loop-test = c .before .before .before .before .before .before .before .before .loop-test in
+    let copy = c .before .before .before .before .copy in
+    rw (copy .ensures)
+    (turn-last (loop .inv) (loop-test .taken) (c .if2 .left))
 
 loop-less-3 : tie.Need-loop-less-3 Inv-loop μ-loop
-loop-less-3 c = less (c .before .before .before .before .before .before .before .before .loop .inv) (c .before .before .before .before .before .before .before .loop-test .taken)
+loop-less-3 c =
+    let loop = c .before .before .before .before .before .before .before .before .loop in
+    let loop-test = c .before .before .before .before .before .before .before .loop-test in
+    less (loop .inv) (loop-test .taken)
 
 loop-again-3 : tie.Need-loop-again-3 Inv-loop μ-loop
 loop-again-3 c =
-    rw (c .before .before .before .copy .ensures)
-    (turn-full (c .before .before .before .before .before .before .before .before .loop .inv) (c .before .before .before .before .before .before .before .loop-test .taken) (c .if1 .left))
+    let loop = c .before .before .before .before .before .before .before .before .loop in
+    let loop-test = c .before .before .before .before .before .before .before .loop-test in
+    let copy = c .before .before .before .copy in
+    rw (copy .ensures)
+    (turn-full (loop .inv) (loop-test .taken) (c .if1 .left))
 
 same-length : tie.Need-same-length Inv-loop μ-loop
 same-length c = c .before .loop .inv .laying .long

@@ -3,7 +3,7 @@
 use mathlib.Core.Path.{ap}
 use Prim.Native.Nat.{ℕ}
 use borrow.Author.Tests.{lt-ltb, le-ltb}
-use Rattle.numbers.specs.Came.{took}
+use Rattle.status.specs.Result.{took}
 use Rattle.cobs.specs.Answers.{encodeAnswer, encodeLeft}
 use borrow.Author.Needs.{needs}
 use Rattle.cobs.proofs.encode.Statement.{statement}
@@ -37,9 +37,13 @@ same-length c = search needs
 returns-3 : tie.Need-returns-3
 unfolding encodeAnswer encodeLeft
 returns-3 c =
-    let e = le-ltb _ _ (c .before .before .before .before .before .before .if1 .left) in
-    let f = le-ltb _ _ (rw (c .before .before .before .before .before .worst .ensures) at (c .before .before .before .before .if2 .left)) in
-    (simp (e, f) (ap (λ (n : ℕ). took n) (c .before .before .encode-into .ensures .0)), simp (e, f) (c .before .before .encode-into .ensures .1))
+    let if1 = c .before .before .before .before .before .before .if1 in
+    let worst = c .before .before .before .before .before .worst in
+    let if2 = c .before .before .before .before .if2 in
+    let encode-into = c .before .before .encode-into in
+    let e = le-ltb _ _ (if1 .left) in
+    let f = le-ltb _ _ (rw (worst .ensures) at (if2 .left)) in
+    (simp (e, f) (ap (λ (n : ℕ). took n) (encode-into .ensures .0)), simp (e, f) (encode-into .ensures .1))
 
 pub encode-spec : {M : Type 1} → statement M
 encode-spec =

@@ -37,64 +37,84 @@ copy-group-requires c κs = bounds (c .before .before .loop .inv) .2
 
 add-code : tie.Need-add-code Inv-loop μ-loop
 add-code c =
-    let b = bounds (c .before .before .before .before .before .loop .inv) in
+    let loop = c .before .before .before .before .before .loop in
+    let b = bounds (loop .inv) in
     omega arith
 
 cast-dst : tie.Need-cast-dst Inv-loop μ-loop
 cast-dst c =
-    let b = bounds (c .before .before .before .before .before .loop .inv) in
+    let loop = c .before .before .before .before .before .loop in
+    let b = bounds (loop .inv) in
     omega arith
 
 slice-write-dst : tie.Need-slice-write-dst Inv-loop μ-loop
 slice-write-dst c =
-    let g = c .before .before .copy-group .ensures in
-    code-fits (c .before .before .before .before .before .loop .inv) (g .0) (g .1)
+    let loop = c .before .before .before .before .before .loop in
+    let copy-group = c .before .before .copy-group in
+    let g = copy-group .ensures in
+    code-fits (loop .inv) (g .0) (g .1)
 
 add-r : tie.Need-add-r Inv-loop μ-loop
 add-r c =
-    let b = bounds (c .before .before .before .before .before .loop .inv) in
+    let loop = c .before .before .before .before .before .loop in
+    let b = bounds (loop .inv) in
     omega arith
 
 add-w : tie.Need-add-w Inv-loop μ-loop
 add-w c =
-    let b = bounds (c .before .before .before .before .before .loop .inv) in
+    let loop = c .before .before .before .before .before .loop in
+    let b = bounds (loop .inv) in
     omega arith
 
 same-length : tie.Need-same-length Inv-loop μ-loop
 same-length c =
-    let g = c .before .before .before .before .copy-group .ensures in
-    end (c .before .before .before .before .before .before .before .loop .inv) (g .0) (g .1) (c .before .if1 .taken) (c .if2 .taken) .long
+    let loop = c .before .before .before .before .before .before .before .loop in
+    let copy-group = c .before .before .before .before .copy-group in
+    let if1 = c .before .if1 in
+    let g = copy-group .ensures in
+    end (loop .inv) (g .0) (g .1) (if1 .taken) (c .if2 .taken) .long
 
 returns : tie.Need-returns Inv-loop μ-loop
 returns c =
-    let g = c .before .before .before .before .copy-group .ensures in
-    let l = end (c .before .before .before .before .before .before .before .loop .inv) (g .0) (g .1) (c .before .if1 .taken) (c .if2 .taken) in
+    let loop = c .before .before .before .before .before .before .before .loop in
+    let copy-group = c .before .before .before .before .copy-group in
+    let if1 = c .before .if1 in
+    let g = copy-group .ensures in
+    let l = end (loop .inv) (g .0) (g .1) (if1 .taken) (c .if2 .taken) in
     (omega arith, done l)
 
 add-r-2 : tie.Need-add-r-2 Inv-loop μ-loop
 add-r-2 c =
-    let b = bounds (c .before .before .before .before .before .before .before .loop .inv) in
+    let loop = c .before .before .before .before .before .before .before .loop in
+    let b = bounds (loop .inv) in
     omega arith
 
 loop-less : tie.Need-loop-less Inv-loop μ-loop
 loop-less c =
-    let b = bounds (c .before .before .before .before .before .before .before .loop .inv) in
+    let loop = c .before .before .before .before .before .before .before .loop in
+    let b = bounds (loop .inv) in
     omega arith
 
 loop-again : tie.Need-loop-again Inv-loop μ-loop
 loop-again c =
-    let g = c .before .before .before .before .copy-group .ensures in
-    turn-zero (c .before .before .before .before .before .before .before .loop .inv) (g .0) (g .1) (c .before .if1 .taken) (c .if2 .left)
+    let loop = c .before .before .before .before .before .before .before .loop in
+    let copy-group = c .before .before .before .before .copy-group in
+    let if1 = c .before .if1 in
+    let g = copy-group .ensures in
+    turn-zero (loop .inv) (g .0) (g .1) (if1 .taken) (c .if2 .left)
 
 loop-less-2 : tie.Need-loop-less-2 Inv-loop μ-loop
 loop-less-2 c =
-    let b = bounds (c .before .before .before .before .before .before .loop .inv) in
+    let loop = c .before .before .before .before .before .before .loop in
+    let b = bounds (loop .inv) in
     omega arith
 
 loop-again-2 : tie.Need-loop-again-2 Inv-loop μ-loop
 loop-again-2 c =
-    let g = c .before .before .before .copy-group .ensures in
-    turn-full (c .before .before .before .before .before .before .loop .inv) (g .0) (g .1) (c .if1 .left)
+    let loop = c .before .before .before .before .before .before .loop in
+    let copy-group = c .before .before .before .copy-group in
+    let g = copy-group .ensures in
+    turn-full (loop .inv) (g .0) (g .1) (c .if1 .left)
 
 pub encode-into-spec : {M : Type 1} → statement M
 encode-into-spec =

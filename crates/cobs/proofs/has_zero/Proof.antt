@@ -30,8 +30,9 @@ loop-less c = omega arith
 
 loop-again : tie.Need-loop-again Inv-loop μ-loop
 loop-again c =
+    let start = c .before .before .before in
     let l = c .before .before .loop in
-    (omega arith, zero-more (l .found) (c .before .before .before .args .src .now) (l .i) (omega arith) ∙ l .inv .1)
+    (omega arith, zero-more (l .found) (start .args .src .now) (l .i) (omega arith) ∙ l .inv .1)
 
 returns : tie.Need-returns Inv-loop μ-loop
 returns c =

@@ -22,9 +22,12 @@ is-whole-requires c κs = sym (c .before .has-zero .ensures) ∙ c .if2 .left
 
 returns-3 : tie.Need-returns-3
 returns-3 c =
-    let z = sym (c .before .before .has-zero .ensures) ∙ c .before .if2 .left in
+    let if1 = c .before .before .before .if1 in
+    let has-zero = c .before .before .has-zero in
+    let if2 = c .before .if2 in
+    let z = sym (has-zero .ensures) ∙ if2 .left in
     let w = sym (c .is-whole .ensures) in
-    sym (broken-some _ (c .before .before .before .if1 .left) ∙ simp (z, w))
+    sym (broken-some _ (if1 .left) ∙ simp (z, w))
 
 pub is-broken-spec : {M : Type 1} → statement M
 is-broken-spec =

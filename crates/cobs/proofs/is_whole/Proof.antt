@@ -30,9 +30,10 @@ sub-if1 c = omega arith
 
 returns : tie.Need-returns Inv-loop μ-loop
 returns c =
+    let start = c .before .before .before .before in
     let l = c .before .before .before .loop in
-    let s = c .before .before .before .before .args .src .now in
-    let some = pos-of-ne-zero (no-zero-at s (c .before .before .before .before .pre) (l .r) (omega arith)) in
+    let s = start .args .src .now in
+    let some = pos-of-ne-zero (no-zero-at s (start .pre) (l .r) (omega arith)) in
     sym (sym (l .inv .1) ∙ whole-past s (l .r) (omega arith) some (omega arith))
 
 add-r : tie.Need-add-r Inv-loop μ-loop
@@ -40,16 +41,18 @@ add-r c = omega arith
 
 loop-less : tie.Need-loop-less Inv-loop μ-loop
 loop-less c =
+    let start = c .before .before .before .before in
     let l = c .before .before .before .loop in
-    let s = c .before .before .before .before .args .src .now in
-    let some = pos-of-ne-zero (no-zero-at s (c .before .before .before .before .pre) (l .r) (omega arith)) in
+    let s = start .args .src .now in
+    let some = pos-of-ne-zero (no-zero-at s (start .pre) (l .r) (omega arith)) in
     omega arith
 
 loop-again : tie.Need-loop-again Inv-loop μ-loop
 loop-again c =
+    let start = c .before .before .before .before in
     let l = c .before .before .before .loop in
-    let s = c .before .before .before .before .args .src .now in
-    let some = pos-of-ne-zero (no-zero-at s (c .before .before .before .before .pre) (l .r) (omega arith)) in
+    let s = start .args .src .now in
+    let some = pos-of-ne-zero (no-zero-at s (start .pre) (l .r) (omega arith)) in
     (omega arith, whole-more s (l .r) (omega arith) some (omega arith) ∙ l .inv .1)
 
 returns-2 : tie.Need-returns-2 Inv-loop μ-loop

@@ -23,33 +23,53 @@ returns-2 c = rw (ne-eqb _ _ (c .before .if1 .left), eq-eqb _ _ (c .if2 .taken))
 config-of-requires : tie.Need-config-of-requires
 unfolding commandForm
 config-of-requires c κs =
-    exactly-at-least (configForm (c .before .before .before .before .args .payload .now)) (length (c .before .before .before .before .args .payload .now)) (rw (eq-eqb _ _ (c .if3 .taken)) at (c .before .before .before .before .pre))
+    let start = c .before .before .before .before in
+    exactly-at-least (configForm (start .args .payload .now)) (length (start .args .payload .now)) (rw (eq-eqb _ _ (c .if3 .taken)) at (start .pre))
 
 returns-3 : tie.Need-returns-3
 unfolding commandOf
 returns-3 c =
-    rw (ne-eqb _ _ (c .before .before .before .if1 .left), ne-eqb _ _ (c .before .before .if2 .left), eq-eqb _ _ (c .before .if3 .taken)) (ap C.SetConfig (c .config-of .ensures))
+    let if1 = c .before .before .before .if1 in
+    let if2 = c .before .before .if2 in
+    let if3 = c .before .if3 in
+    rw (ne-eqb _ _ (if1 .left), ne-eqb _ _ (if2 .left), eq-eqb _ _ (if3 .taken)) (ap C.SetConfig (c .config-of .ensures))
 
 shared-slice-read-t6 : tie.Need-shared-slice-read-t6
 unfolding commandForm
 shared-slice-read-t6 c =
-    tx-some (c .before .before .before .before .before .before .args .payload .now) (rw (ne-eqb _ _ (c .before .before .if3 .left), eq-eqb _ _ (c .before .if4 .taken)) at (c .before .before .before .before .before .before .pre))
+    let start = c .before .before .before .before .before .before in
+    let if3 = c .before .before .if3 in
+    let if4 = c .before .if4 in
+    tx-some (start .args .payload .now) (rw (ne-eqb _ _ (if3 .left), eq-eqb _ _ (if4 .taken)) at (start .pre))
 
 returns-4 : tie.Need-returns-4
 unfolding commandOf commandForm
 returns-4 c =
-    let h = tx-some (c .before .before .before .before .before .before .args .payload .now) (rw (ne-eqb _ _ (c .before .before .if3 .left), eq-eqb _ _ (c .before .if4 .taken)) at (c .before .before .before .before .before .before .pre)) in
-    rw (ne-eqb _ _ (c .before .before .before .before .if1 .left), ne-eqb _ _ (c .before .before .before .if2 .left), ne-eqb _ _ (c .before .before .if3 .left), eq-eqb _ _ (c .before .if4 .taken)) (ap C.Tx (get-byte 0 (c .before .before .before .before .before .before .args .payload .now) h))
+    let start = c .before .before .before .before .before .before in
+    let if1 = c .before .before .before .before .if1 in
+    let if2 = c .before .before .before .if2 in
+    let if3 = c .before .before .if3 in
+    let if4 = c .before .if4 in
+    let h = tx-some (start .args .payload .now) (rw (ne-eqb _ _ (if3 .left), eq-eqb _ _ (if4 .taken)) at (start .pre)) in
+    rw (ne-eqb _ _ (if1 .left), ne-eqb _ _ (if2 .left), ne-eqb _ _ (if3 .left), eq-eqb _ _ (if4 .taken)) (ap C.Tx (get-byte 0 (start .args .payload .now) h))
 
 returns-5 : tie.Need-returns-5
 unfolding commandOf
 returns-5 c =
-    rw (ne-eqb _ _ (c .before .before .before .before .if1 .left), ne-eqb _ _ (c .before .before .before .if2 .left), ne-eqb _ _ (c .before .before .if3 .left), ne-eqb _ _ (c .before .if4 .left), eq-eqb _ _ (c .if5 .taken))
+    let if1 = c .before .before .before .before .if1 in
+    let if2 = c .before .before .before .if2 in
+    let if3 = c .before .before .if3 in
+    let if4 = c .before .if4 in
+    rw (ne-eqb _ _ (if1 .left), ne-eqb _ _ (if2 .left), ne-eqb _ _ (if3 .left), ne-eqb _ _ (if4 .left), eq-eqb _ _ (c .if5 .taken))
 
 returns-6 : tie.Need-returns-6
 unfolding commandOf
 returns-6 c =
-    rw (ne-eqb _ _ (c .before .before .before .before .if1 .left), ne-eqb _ _ (c .before .before .before .if2 .left), ne-eqb _ _ (c .before .before .if3 .left), ne-eqb _ _ (c .before .if4 .left), ne-eqb _ _ (c .if5 .left))
+    let if1 = c .before .before .before .before .if1 in
+    let if2 = c .before .before .before .if2 in
+    let if3 = c .before .before .if3 in
+    let if4 = c .before .if4 in
+    rw (ne-eqb _ _ (if1 .left), ne-eqb _ _ (if2 .left), ne-eqb _ _ (if3 .left), ne-eqb _ _ (if4 .left), ne-eqb _ _ (c .if5 .left))
 
 pub command-of-spec : {M : Type 1} → statement M
 command-of-spec =

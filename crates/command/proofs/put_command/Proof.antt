@@ -14,7 +14,9 @@ enum-known-c c = search needs
 put-config-requires : tie.Need-put-config-requires
 unfolding commandBytes
 put-config-requires c κs =
-    rw zero-add (rw (c .before .before .c .given .1) at (c .before .before .before .before .before .before .pre))
+    let start = c .before .before .before .before .before .before in
+    let c' = c .before .before .c in
+    rw zero-add (rw (c' .given .1) at (start .pre))
 
 enum-known-c-2 : tie.Need-enum-known-c-2
 enum-known-c-2 c = search needs
@@ -22,12 +24,16 @@ enum-known-c-2 c = search needs
 put-tx-requires : tie.Need-put-tx-requires
 unfolding commandBytes
 put-tx-requires c κs =
-    rw (c .before .before .c2 .given .1) at (c .before .before .before .before .before .before .pre)
+    let start = c .before .before .before .before .before .before in
+    let c2 = c .before .before .c2 in
+    rw (c2 .given .1) at (start .pre)
 
 copy-requires : tie.Need-copy-requires
 copy-requires c κs =
-    let e = bytes-alone (c .before .before .before .before .args .c) (c .before .before .before .before .args .bytes .now) (c .before .match .keys3) in
-    rw zero-add (rw e at (c .before .before .before .before .pre))
+    let start = c .before .before .before .before in
+    let match = c .before .match in
+    let e = bytes-alone (start .args .c) (start .args .bytes .now) (match .keys3) in
+    rw zero-add (rw e at (start .pre))
 
 same-length : tie.Need-same-length
 same-length c = search needs
@@ -35,7 +41,9 @@ same-length c = search needs
 returns : tie.Need-returns
 unfolding commandBytes
 returns c =
-    rw (c .before .before .before .before .before .c .given .1) (rw zero-add at (c .before .before .put-config .ensures .0), c .before .before .put-config .ensures .1)
+    let c' = c .before .before .before .before .before .c in
+    let put-config = c .before .before .put-config in
+    rw (c' .given .1) (rw zero-add at (put-config .ensures .0), put-config .ensures .1)
 
 same-length-2 : tie.Need-same-length-2
 same-length-2 c = search needs
@@ -43,15 +51,20 @@ same-length-2 c = search needs
 returns-2 : tie.Need-returns-2
 unfolding commandBytes
 returns-2 c =
-    rw (c .before .before .before .before .before .c2 .given .1) (c .before .before .put-tx .ensures)
+    let c2 = c .before .before .before .before .before .c2 in
+    let put-tx = c .before .before .put-tx in
+    rw (c2 .given .1) (put-tx .ensures)
 
 same-length-3 : tie.Need-same-length-3
 same-length-3 c = search needs
 
 returns-3 : tie.Need-returns-3
 returns-3 c =
-    let e = bytes-alone (c .before .before .before .before .before .before .before .args .c) (c .before .before .before .before .before .before .before .args .bytes .now) (c .before .before .before .before .match .keys3) in
-    rw e (refl, c .before .before .copy .ensures)
+    let start = c .before .before .before .before .before .before .before in
+    let match = c .before .before .before .before .match in
+    let copy = c .before .before .copy in
+    let e = bytes-alone (start .args .c) (start .args .bytes .now) (match .keys3) in
+    rw e (refl, copy .ensures)
 
 pub put-command-spec : {M : Type 1} → statement M
 put-command-spec =

@@ -12,33 +12,39 @@ use Rattle.command.proofs.put_tx.Tie as tie
 
 slice-write-dst : tie.Need-slice-write-dst
 slice-write-dst c =
-    let e = tx-bytes (c .before .before .args .flags) (c .before .before .args .packet .now) (c .before .before .fits .flags .fits) in
-    omega (arith, rw e at (c .before .before .pre))
+    let start = c .before .before in
+    let e = tx-bytes (start .args .flags) (start .args .packet .now) (start .fits .flags .fits) in
+    omega (arith, rw e at (start .pre))
 
 copy-requires : tie.Need-copy-requires
 copy-requires c κs =
-    let e = tx-bytes (c .before .before .before .args .flags) (c .before .before .before .args .packet .now) (c .before .before .before .fits .flags .fits) in
-    simp length-set (omega (arith, rw e at (c .before .before .before .pre)))
+    let start = c .before .before .before in
+    let e = tx-bytes (start .args .flags) (start .args .packet .now) (start .fits .flags .fits) in
+    simp length-set (omega (arith, rw e at (start .pre)))
 
 add-result : tie.Need-add-result
 add-result c = search needs
 
 same-length : tie.Need-same-length
 same-length c =
-    let f = c .before .before .before .before .before .before .args .flags in
-    let s = c .before .before .before .before .before .before .args .packet .now in
-    let d = c .before .before .before .before .before .before .args .dst .now in
-    let h = rw (tx-bytes f s (c .before .before .before .before .before .before .fits .flags .fits)) at (c .before .before .before .before .before .before .pre) in
-    ap length (c .before .before .copy .ensures ∙ lay-next 0 f s d (omega arith)) ∙ length-lay 0 (f ∷ s) d (omega arith)
+    let start = c .before .before .before .before .before .before in
+    let copy = c .before .before .copy in
+    let f = start .args .flags in
+    let s = start .args .packet .now in
+    let d = start .args .dst .now in
+    let h = rw (tx-bytes f s (start .fits .flags .fits)) at (start .pre) in
+    ap length (copy .ensures ∙ lay-next 0 f s d (omega arith)) ∙ length-lay 0 (f ∷ s) d (omega arith)
 
 returns : tie.Need-returns
 returns c =
-    let f = c .before .before .before .before .before .before .args .flags in
-    let s = c .before .before .before .before .before .before .args .packet .now in
-    let d = c .before .before .before .before .before .before .args .dst .now in
-    let e = tx-bytes f s (c .before .before .before .before .before .before .fits .flags .fits) in
-    let h = rw e at (c .before .before .before .before .before .before .pre) in
-    rw e (omega arith, c .before .before .copy .ensures ∙ lay-next 0 f s d (omega arith))
+    let start = c .before .before .before .before .before .before in
+    let copy = c .before .before .copy in
+    let f = start .args .flags in
+    let s = start .args .packet .now in
+    let d = start .args .dst .now in
+    let e = tx-bytes f s (start .fits .flags .fits) in
+    let h = rw e at (start .pre) in
+    rw e (omega arith, copy .ensures ∙ lay-next 0 f s d (omega arith))
 
 pub put-tx-spec : {M : Type 1} → statement M
 put-tx-spec = tie.close (tie.spec slice-write-dst copy-requires add-result same-length returns)

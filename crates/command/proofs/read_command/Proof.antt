@@ -1,7 +1,7 @@
 -- Each answer is where the chain of tests in its definition ends.
 -- Assumes nothing.
 use mathlib.Core.Path.{sym, ap, _∙_}
-use Rattle.numbers.specs.Came.{took}
+use Rattle.status.specs.Result.{took}
 use Rattle.command.specs.Commands.{readCommand}
 use Rattle.command.specs.declared.Command.{Command}
 use borrow.Author.Needs.{needs}
@@ -23,15 +23,24 @@ command-of-requires c κs = sym (rw (c .before .before .command-form .ensures) a
 returns : tie.Need-returns
 unfolding readCommand
 returns c =
-    let e = sym (rw (c .before .before .before .command-form .ensures) at (c .before .before .exactly .ensures)) ∙ c .before .if2 .taken in
-    let t = sym (c .before .before .before .before .before .is-command .ensures) ∙ c .before .before .before .before .if1 .taken in
+    let is-command = c .before .before .before .before .before .is-command in
+    let if1 = c .before .before .before .before .if1 in
+    let command-form = c .before .before .before .command-form in
+    let exactly = c .before .before .exactly in
+    let if2 = c .before .if2 in
+    let e = sym (rw (command-form .ensures) at (exactly .ensures)) ∙ if2 .taken in
+    let t = sym (is-command .ensures) ∙ if1 .taken in
     rw (t, e) (ap (λ (m : Command). took m) (c .command-of .ensures))
 
 returns-2 : tie.Need-returns-2
 unfolding readCommand
 returns-2 c =
-    let e = sym (rw (c .before .before .command-form .ensures) at (c .before .exactly .ensures)) ∙ c .if2 .left in
-    rw (sym (c .before .before .before .before .is-command .ensures) ∙ c .before .before .before .if1 .taken, e)
+    let is-command = c .before .before .before .before .is-command in
+    let if1 = c .before .before .before .if1 in
+    let command-form = c .before .before .command-form in
+    let exactly = c .before .exactly in
+    let e = sym (rw (command-form .ensures) at (exactly .ensures)) ∙ c .if2 .left in
+    rw (sym (is-command .ensures) ∙ if1 .taken, e)
 
 returns-3 : tie.Need-returns-3
 unfolding readCommand

@@ -30,14 +30,20 @@ shared-slice-read-if3 c = search needs
 returns-3 : tie.Need-returns-3
 unfolding txForm
 returns-3 c =
-    let p = c .before .before .before .before .args .payload .now in
-    rw (le-ltb _ _ (c .before .before .before .if1 .left), le-ltb _ _ (c .before .before .if2 .left), ← get-byte 0 p (omega arith), lt-ltb _ _ (c .if3 .taken))
+    let start = c .before .before .before .before in
+    let if1 = c .before .before .before .if1 in
+    let if2 = c .before .before .if2 in
+    let p = start .args .payload .now in
+    rw (le-ltb _ _ (if1 .left), le-ltb _ _ (if2 .left), ← get-byte 0 p (omega arith), lt-ltb _ _ (c .if3 .taken))
 
 returns-4 : tie.Need-returns-4
 unfolding txForm
 returns-4 c =
-    let p = c .before .before .before .before .args .payload .now in
-    rw (le-ltb _ _ (c .before .before .before .if1 .left), le-ltb _ _ (c .before .before .if2 .left), ← get-byte 0 p (omega arith), le-ltb _ _ (c .if3 .left))
+    let start = c .before .before .before .before in
+    let if1 = c .before .before .before .if1 in
+    let if2 = c .before .before .if2 in
+    let p = start .args .payload .now in
+    rw (le-ltb _ _ (if1 .left), le-ltb _ _ (if2 .left), ← get-byte 0 p (omega arith), le-ltb _ _ (c .if3 .left))
 
 pub tx-form-spec : {M : Type 1} → statement M
 tx-form-spec =

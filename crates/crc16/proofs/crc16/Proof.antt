@@ -34,14 +34,17 @@ loop-less c = search needs
 
 loop-again : tie.Need-loop-again Inv-loop μ-loop
 loop-again c =
+    let start = c .before .before .before .before .before in
     let l = c .before .before .before .loop in
-    let src = c .before .before .before .before .before .args .src .now in
-    (omega arith, rw (c .step .ensures) (sym (crc-more (l .c) (l .i) src (c .before .before .loop-test .taken)) ∙ l .inv .1))
+    let loop-test = c .before .before .loop-test in
+    let src = start .args .src .now in
+    (omega arith, rw (c .step .ensures) (sym (crc-more (l .c) (l .i) src (loop-test .taken)) ∙ l .inv .1))
 
 returns : tie.Need-returns Inv-loop μ-loop
 returns c =
+    let start = c .before .before .before in
     let l = c .before .loop in
-    sym (crc-done (l .c) (l .i) (c .before .before .before .args .src .now) (c .loop-test .left)) ∙ l .inv .1
+    sym (crc-done (l .c) (l .i) (start .args .src .now) (c .loop-test .left)) ∙ l .inv .1
 
 pub crc16-spec : {M : Type 1} → statement M
 crc16-spec =

@@ -1,13 +1,13 @@
 -- The OK is said first, and the test is the definition's.
-use Rattle.wire.proofs.Laws.{sent-one}
+use Rattle.emit.proofs.Laws.{sent-one}
 use Rattle.control.proofs.Laws.{spoken}
 use Rattle.dispatch.specs.Commands.{turned}
 use borrow.Author.Needs.{needs}
 use Rattle.dispatch.proofs.turn.Statement.{statement}
 use Rattle.dispatch.proofs.turn.Tie as tie
 
-say-ok-requires : tie.Need-say-ok-requires
-say-ok-requires c κs = search needs
+write-ok-requires : tie.Need-write-ok-requires
+write-ok-requires c κs = search needs
 
 with-inbox-requires : tie.Need-with-inbox-requires
 with-inbox-requires c κs = search needs
@@ -30,8 +30,14 @@ same-length c = search needs
 returns : tie.Need-returns
 unfolding turned
 returns c =
-    let e = rw (c .before .before .before .before .is-free .ensures, c .before .before .before .changed .ensures) at (c .before .before .if1 .taken) in
-    simp e (spoken _ _ (sent-one (c .before .before .before .before .before .before .before .before .say-ok .ensures)) (rw (c .before .before .before .before .before .with-inbox .ensures, c .before .idle .ensures) at (c .done .ensures)))
+    let write-ok = c .before .before .before .before .before .before .before .before .write-ok in
+    let with-inbox = c .before .before .before .before .before .with-inbox in
+    let is-free = c .before .before .before .before .is-free in
+    let changed = c .before .before .before .changed in
+    let if1 = c .before .before .if1 in
+    let idle = c .before .idle in
+    let e = rw (is-free .ensures, changed .ensures) at (if1 .taken) in
+    simp e (spoken _ _ (sent-one (write-ok .ensures)) (rw (with-inbox .ensures, idle .ensures) at (c .done .ensures)))
 
 done-requires-2 : tie.Need-done-requires-2
 done-requires-2 c κs = search needs
@@ -42,14 +48,19 @@ same-length-2 c = search needs
 returns-2 : tie.Need-returns-2
 unfolding turned
 returns-2 c =
-    let e = rw (c .before .before .before .is-free .ensures, c .before .before .changed .ensures) at (c .before .if1 .left) in
-    simp e (spoken _ _ (sent-one (c .before .before .before .before .before .before .before .say-ok .ensures)) (rw (c .before .before .before .before .with-inbox .ensures) at (c .done2 .ensures)))
+    let write-ok = c .before .before .before .before .before .before .before .write-ok in
+    let with-inbox = c .before .before .before .before .with-inbox in
+    let is-free = c .before .before .before .is-free in
+    let changed = c .before .before .changed in
+    let if1 = c .before .if1 in
+    let e = rw (is-free .ensures, changed .ensures) at (if1 .left) in
+    simp e (spoken _ _ (sent-one (write-ok .ensures)) (rw (with-inbox .ensures) at (c .done2 .ensures)))
 
 pub turn-spec : {M : Type 1} → statement M
 turn-spec =
     tie.close
     (tie.spec
-    say-ok-requires
+    write-ok-requires
     with-inbox-requires
     is-free-requires
     changed-requires

@@ -36,9 +36,12 @@ same-length c = search needs
 returns-3 : tie.Need-returns-3
 unfolding buildAnswer buildLeft
 returns-3 c =
-    let e = le-ltb _ _ (c .before .before .before .before .before .if1 .left) in
-    let f = le-ltb _ _ (c .before .before .before .before .if2 .left) in
-    (simp (e, f), simp (e, f) (c .before .before .build-into .ensures))
+    let if1 = c .before .before .before .before .before .if1 in
+    let if2 = c .before .before .before .before .if2 in
+    let build-into = c .before .before .build-into in
+    let e = le-ltb _ _ (if1 .left) in
+    let f = le-ltb _ _ (if2 .left) in
+    (simp (e, f), simp (e, f) (build-into .ensures))
 
 pub build-spec : {M : Type 1} → statement M
 build-spec =

@@ -12,8 +12,8 @@ use Rattle.frame.proofs.cover_into.Tie as tie
 
 slice-write-dst : tie.Need-slice-write-dst
 slice-write-dst c =
-    let s = c .before .before in
-    omega (arith, s .pre, length-covered (s .args .kind) (s .args .tag) (s .args .payload .now))
+    let start = c .before .before in
+    omega (arith, start .pre, length-covered (start .args .kind) (start .args .tag) (start .args .payload .now))
 
 bytes-of-u16-requires : tie.Need-bytes-of-u16-requires
 bytes-of-u16-requires c κs = search needs
@@ -23,28 +23,35 @@ slice-aggregate-copy c = search needs
 
 copy-requires : tie.Need-copy-requires
 copy-requires c κs =
-    let s = c .before .before .before .before .before in
-    rw (c .before .before .bytes-of-u16 .ensures, length-le, length-set)
-    (omega (arith, s .pre, length-covered (s .args .kind) (s .args .tag) (s .args .payload .now)))
+    let start = c .before .before .before .before .before in
+    let bytes-of-u16 = c .before .before .bytes-of-u16 in
+    rw (bytes-of-u16 .ensures, length-le, length-set)
+    (omega (arith, start .pre, length-covered (start .args .kind) (start .args .tag) (start .args .payload .now)))
 
 copy-requires-2 : tie.Need-copy-requires-2
 copy-requires-2 c κs =
-    let s = c .before .before .before .before .before .before .before .before .before in
-    rw (c .before .before .before .copy .kept .1 .0, length-set)
-    (omega (arith, s .pre, length-covered (s .args .kind) (s .args .tag) (s .args .payload .now)))
+    let start = c .before .before .before .before .before .before .before .before .before in
+    let copy = c .before .before .before .copy in
+    rw (copy .kept .1 .0, length-set)
+    (omega (arith, start .pre, length-covered (start .args .kind) (start .args .tag) (start .args .payload .now)))
 
 same-length : tie.Need-same-length
 same-length c =
-    let s = c .before .before .before .before .before .before .before .before .before .before .before .before in
-    let e = c .before .before .copy2 .kept .1 .0 in
-    let f = c .before .before .before .before .before .before .copy .kept .1 .0 in
-    e ∙ f ∙ length-set (s .args .dst .now) 0 (s .args .kind)
+    let start = c .before .before .before .before .before .before .before .before .before .before .before .before in
+    let copy = c .before .before .before .before .before .before .copy in
+    let copy2 = c .before .before .copy2 in
+    let e = copy2 .kept .1 .0 in
+    let f = copy .kept .1 .0 in
+    e ∙ f ∙ length-set (start .args .dst .now) 0 (start .args .kind)
 
 returns : tie.Need-returns
 returns c =
-    let s = c .before .before .before .before .before .before .before .before .before .before .before .before in
-    rw (c .before .before .copy2 .ensures, c .before .before .before .before .before .before .copy .ensures, c .before .before .before .before .before .before .before .before .before .bytes-of-u16 .ensures)
-    (covered-laid (s .args .kind) (s .args .tag) (s .args .payload .now) (s .args .dst .now) (s .pre))
+    let start = c .before .before .before .before .before .before .before .before .before .before .before .before in
+    let bytes-of-u16 = c .before .before .before .before .before .before .before .before .before .bytes-of-u16 in
+    let copy = c .before .before .before .before .before .before .copy in
+    let copy2 = c .before .before .copy2 in
+    rw (copy2 .ensures, copy .ensures, bytes-of-u16 .ensures)
+    (covered-laid (start .args .kind) (start .args .tag) (start .args .payload .now) (start .args .dst .now) (start .pre))
 
 pub cover-into-spec : {M : Type 1} → statement M
 cover-into-spec =

@@ -15,7 +15,9 @@ slice-read-n : tie.Need-slice-read-n
 slice-read-n c = search needs
 
 cast-n : tie.Need-cast-n
-cast-n c = omega (arith, c .slice-known3 .given (c .before .before .before .args .slot * 276))
+cast-n c =
+    let start = c .before .before .before in
+    omega (arith, c .slice-known3 .given (start .args .slot * 276))
 
 bytes-of-u16-requires : tie.Need-bytes-of-u16-requires
 bytes-of-u16-requires c κs = search needs
@@ -32,27 +34,34 @@ add-copy c = search needs
 copy-requires : tie.Need-copy-requires
 copy-requires c κs = search needs
 
-add-say : tie.Need-add-say
-add-say c = search needs
+add-write : tie.Need-add-write
+add-write c = search needs
 
-add-say-2 : tie.Need-add-say-2
-add-say-2 c =
-    omega (arith, c .before .before .before .before .before .before .slice-known3 .given (c .before .before .before .before .before .before .before .before .before .args .slot * 276), c .before .before .before .before .before .before .before .before .before .pre)
+add-write-2 : tie.Need-add-write-2
+add-write-2 c =
+    let start = c .before .before .before .before .before .before .before .before .before in
+    let slice-known3 = c .before .before .before .before .before .before .slice-known3 in
+    omega (arith, slice-known3 .given (start .args .slot * 276), start .pre)
 
-sub-say : tie.Need-sub-say
-sub-say c = search needs
+sub-write : tie.Need-sub-write
+sub-write c = search needs
 
-part-say-start : tie.Need-part-say-start
-part-say-start c = search needs
+part-write-start : tie.Need-part-write-start
+part-write-start c = search needs
 
-part-say-end : tie.Need-part-say-end
-part-say-end c =
-    omega (arith, c .before .before .before .before .before .before .before .slice-known3 .given (c .before .before .before .before .before .before .before .before .before .before .args .slot * 276), c .before .before .before .copy .kept .1 .0, c .before .before .before .before .before .before .before .before .before .before .pre)
+part-write-end : tie.Need-part-write-end
+part-write-end c =
+    let start = c .before .before .before .before .before .before .before .before .before .before in
+    let slice-known3 = c .before .before .before .before .before .before .before .slice-known3 in
+    let copy = c .before .before .before .copy in
+    omega (arith, slice-known3 .given (start .args .slot * 276), copy .kept .1 .0, start .pre)
 
-say-requires : tie.Need-say-requires
-say-requires c κs =
-    let b = c .before .before .before .before .before .before .before .before .before .slice-known3 .given (c .before .before .before .before .before .before .before .before .before .before .before .before .args .slot * 276) in
-    (rw length-take (omega (arith, b)), rw length-take (omega (arith, b, c .before .before .before .before .before .before .before .before .before .before .before .before .pre)))
+write-requires : tie.Need-write-requires
+write-requires c κs =
+    let start = c .before .before .before .before .before .before .before .before .before .before .before .before in
+    let slice-known3 = c .before .before .before .before .before .before .before .before .before .slice-known3 in
+    let b = slice-known3 .given (start .args .slot * 276) in
+    (rw length-take (omega (arith, b)), rw length-take (omega (arith, b, start .pre)))
 
 same-length : tie.Need-same-length
 same-length c = search needs
@@ -64,8 +73,11 @@ returns : tie.Need-returns
 returns c =
     let s = c .before .before .before .before .before .before .before .before .before .before .before .before .before .before .before .args in
     let p = c .before .before .before .before .before .before .before .before .before .before .before .before .before .before .before .pre in
-    let e = counted-at (s .packets .now) (s .slot) (s .drops) (c .before .before .before .before .before .before .before .before .before .before .before .bytes-of-u16 .ensures) (c .before .before .before .before .before .before .before .before .copy .ensures) in
-    (e, rw (e, payload-part (s .packets .now) (s .slot) (s .drops) (p .0) (p .1 .0)) at (c .before .before .say .ensures))
+    let bytes-of-u16 = c .before .before .before .before .before .before .before .before .before .before .before .bytes-of-u16 in
+    let copy = c .before .before .before .before .before .before .before .before .copy in
+    let write = c .before .before .write in
+    let e = counted-at (s .packets .now) (s .slot) (s .drops) (bytes-of-u16 .ensures) (copy .ensures) in
+    (e, rw (e, payload-part (s .packets .now) (s .slot) (s .drops) (p .0) (p .1 .0)) at (write .ensures))
 
 pub deliver-spec : {M : Type 1} → statement M
 deliver-spec =
@@ -79,12 +91,12 @@ deliver-spec =
     slice-aggregate-copy
     add-copy
     copy-requires
-    add-say
-    add-say-2
-    sub-say
-    part-say-start
-    part-say-end
-    say-requires
+    add-write
+    add-write-2
+    sub-write
+    part-write-start
+    part-write-end
+    write-requires
     same-length
     same-length-2
     returns)

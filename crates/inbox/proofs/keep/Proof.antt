@@ -14,21 +14,29 @@ mul-at c = search needs
 
 slice-aggregate-put : tie.Need-slice-aggregate-put
 slice-aggregate-put c =
-    sym (length-take-le _ (c .before .before .before .args .bytes .now) (omega (arith, c .before .if1 .taken)))
+    let start = c .before .before .before in
+    let if1 = c .before .if1 in
+    sym (length-take-le _ (start .args .bytes .now) (omega (arith, if1 .taken)))
 
 put-requires : tie.Need-put-requires
-put-requires c κs = (rw length-take (omega arith), omega (arith, c .before .before .before .before .pre))
+put-requires c κs =
+    let start = c .before .before .before .before in
+    (rw length-take (omega arith), omega (arith, start .pre))
 
 returns : tie.Need-returns
 returns c =
-    let s = c .before .before .before .before .before .args in c .put .ensures ∙ keep-cut (s .packets .now) (s .slot) (s .h) (s .bytes .now) (c .before .before .before .if1 .taken)
+    let start = c .before .before .before .before .before in
+    let if1 = c .before .before .before .if1 in
+    let s = start .args in c .put .ensures ∙ keep-cut (s .packets .now) (s .slot) (s .h) (s .bytes .now) (if1 .taken)
 
 put-requires-2 : tie.Need-put-requires-2
 put-requires-2 c κs = search needs
 
 returns-2 : tie.Need-returns-2
 returns-2 c =
-    let s = c .before .before .before .before .args in c .put2 .ensures ∙ keep-whole (s .packets .now) (s .slot) (s .h) (s .bytes .now) (c .before .before .if1 .left)
+    let start = c .before .before .before .before in
+    let if1 = c .before .before .if1 in
+    let s = start .args in c .put2 .ensures ∙ keep-whole (s .packets .now) (s .slot) (s .h) (s .bytes .now) (if1 .left)
 
 pub keep-spec : {M : Type 1} → statement M
 keep-spec =

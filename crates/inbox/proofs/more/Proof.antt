@@ -23,10 +23,14 @@ add-t8 c = search needs
 
 returns-2 : tie.Need-returns-2
 returns-2 c =
-    simp (le-ltb _ _ (c .before .before .before .before .if1 .left), more-drops _ (c .before .if2 .taken))
+    let if1 = c .before .before .before .before .if1 in
+    let if2 = c .before .if2 in
+    simp (le-ltb _ _ (if1 .left), more-drops _ (if2 .taken))
 
 returns-3 : tie.Need-returns-3
-returns-3 c = simp (le-ltb _ _ (c .before .before .before .if1 .left), most-drops _ (c .if2 .left))
+returns-3 c =
+    let if1 = c .before .before .before .if1 in
+    simp (le-ltb _ _ (if1 .left), most-drops _ (c .if2 .left))
 
 pub more-spec : {M : Type 1} → statement M
 more-spec = tie.close (tie.spec cast-held add-t5 returns add-first add-t8 returns-2 returns-3)

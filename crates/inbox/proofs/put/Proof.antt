@@ -4,7 +4,7 @@ use mathlib.Core.Path.{_∙_}
 use native.Mathlib.Omega.{arith}
 use lib.ListN.{length-set}
 use Rattle.rx.proofs.Laws.{length-rx}
-use Rattle.inbox.specs.Packets.{packetOf}
+use Rattle.inbox.specs.Packets.{receivedPacket}
 use Rattle.inbox.proofs.Laws.{put-slot}
 use borrow.Author.Needs.{needs}
 use Rattle.inbox.proofs.put.Statement.{statement}
@@ -30,7 +30,9 @@ add-copy c = search needs
 
 copy-requires : tie.Need-copy-requires
 copy-requires c κs =
-    rw (c .before .before .rx-bytes .ensures, length-rx, length-set) (omega (arith, c .before .before .before .before .before .before .pre))
+    let start = c .before .before .before .before .before .before in
+    let rx-bytes = c .before .before .rx-bytes in
+    rw (rx-bytes .ensures, length-rx, length-set) (omega (arith, start .pre))
 
 add-copy-2 : tie.Need-add-copy-2
 add-copy-2 c = search needs
@@ -40,18 +42,27 @@ add-copy-3 c = search needs
 
 copy-requires-2 : tie.Need-copy-requires-2
 copy-requires-2 c κs =
-    rw (c .before .before .before .copy .kept .1 .0, length-set) (omega (arith, c .before .before .before .before .before .before .before .before .before .before .pre))
+    let start = c .before .before .before .before .before .before .before .before .before .before in
+    let copy = c .before .before .before .copy in
+    rw (copy .kept .1 .0, length-set) (omega (arith, start .pre))
 
 same-length : tie.Need-same-length
 same-length c =
-    c .before .before .copy2 .kept .1 .0 ∙ c .before .before .before .before .before .before .copy .kept .1 .0 ∙ simp length-set
+    let copy = c .before .before .before .before .before .before .copy in
+    let copy2 = c .before .before .copy2 in
+    copy2 .kept .1 .0 ∙ copy .kept .1 .0 ∙ simp length-set
 
 returns : tie.Need-returns
 returns c =
     let s = c .before .before .before .before .before .before .before .before .before .before .before .before .before .args in
-    c .before .before .copy2 .ensures
-    ∙ rw (c .before .before .before .before .before .before .copy .ensures, c .before .before .before .before .before .before .before .before .before .rx-bytes .ensures, c .before .before .before .before .before .before .before .before .before .before .fields-of .ensures)
-    (put-slot (s .at) (packetOf (s .h) (s .bytes .now)) (s .memory .now) (c .before .before .before .before .before .before .before .before .before .before .before .before .before .pre .0) (c .before .before .before .before .before .before .before .before .before .before .before .before .before .pre .1))
+    let start = c .before .before .before .before .before .before .before .before .before .before .before .before .before in
+    let fields-of = c .before .before .before .before .before .before .before .before .before .before .fields-of in
+    let rx-bytes = c .before .before .before .before .before .before .before .before .before .rx-bytes in
+    let copy = c .before .before .before .before .before .before .copy in
+    let copy2 = c .before .before .copy2 in
+    copy2 .ensures
+    ∙ rw (copy .ensures, rx-bytes .ensures, fields-of .ensures)
+    (put-slot (s .at) (receivedPacket (s .h) (s .bytes .now)) (s .memory .now) (start .pre .0) (start .pre .1))
 
 pub put-spec : {M : Type 1} → statement M
 put-spec =

@@ -21,7 +21,9 @@ accept-requires c κs = search needs
 returns-2 : tie.Need-returns-2
 returns-2 c =
     let s = c .before .before .before .before .before .args in
-    none-held (s .out .now) (s .packets .now) (s .d) (c .before .before .before .if1 .left) (c .before .if2 .taken) (c .accept .ensures)
+    let if1 = c .before .before .before .if1 in
+    let if2 = c .before .if2 in
+    none-held (s .out .now) (s .packets .now) (s .d) (if1 .left) (if2 .taken) (c .accept .ensures)
 
 cast-slot : tie.Need-cast-slot
 cast-slot c = search needs
@@ -50,8 +52,13 @@ same-length c = search needs
 returns-3 : tie.Need-returns-3
 returns-3 c =
     let s = c .before .before .before .before .before .before .before .before .before .before .before .before .args in
-    let w = c .before .before .before .before .deliver .ensures in
-    delivered (s .out .now) (s .packets .now) (s .d) (c .before .before .before .before .before .before .before .before .before .before .if1 .left) (s .d .inbox .held - 1) (omega (arith, c .before .before .before .before .before .before .before .before .if2 .left)) (w .0) (w .1) (rw (c .before .with-inbox .ensures) at (c .accept2 .ensures))
+    let if1 = c .before .before .before .before .before .before .before .before .before .before .if1 in
+    let if2 = c .before .before .before .before .before .before .before .before .if2 in
+    let deliver = c .before .before .before .before .deliver in
+    let with-inbox = c .before .with-inbox in
+    let w = deliver .ensures in
+    delivered (s .out .now) (s .packets .now) (s .d) (if1 .left) (s .d .inbox .held - 1) (omega (arith, if2 .left)) (w .0) (w .1)
+    (rw (with-inbox .ensures) at (c .accept2 .ensures))
 
 pub request-spec : {M : Type 1} → statement M
 request-spec =

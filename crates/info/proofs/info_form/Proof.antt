@@ -18,7 +18,8 @@ shared-slice-read-mcu c = search needs
 
 returns-2 : tie.Need-returns-2
 returns-2 c =
-    let p = c .before .before .before .args .payload .now in
+    let start = c .before .before .before in
+    let p = start .args .payload .now in
     long-mcu p (omega arith) (get-byte 35 p (omega arith)) (omega arith)
 
 cast-at : tie.Need-cast-at
@@ -32,7 +33,8 @@ add-if3 c = search needs
 
 returns-3 : tie.Need-returns-3
 returns-3 c =
-    let p = c .before .before .before .before .args .payload .now in
+    let start = c .before .before .before .before in
+    let p = start .args .payload .now in
     cut p (omega arith) (get-byte 35 p (omega arith)) (omega arith) (omega arith)
 
 shared-slice-read-radio : tie.Need-shared-slice-read-radio
@@ -40,7 +42,8 @@ shared-slice-read-radio c = search needs
 
 returns-4 : tie.Need-returns-4
 returns-4 c =
-    let p = c .before .before .before .before .before .before .args .payload .now in
+    let start = c .before .before .before .before .before .before in
+    let p = start .args .payload .now in
     let radio = get-byte (infoSize + getD p 35 0) p (omega arith) in
     long-radio p (omega arith) (get-byte 35 p (omega arith)) (omega arith) (omega arith) radio (omega arith)
 
@@ -55,7 +58,8 @@ add-t11 c = search needs
 
 returns-5 : tie.Need-returns-5
 returns-5 c =
-    let p = c .before .before .before .before .before .before .args .payload .now in
+    let start = c .before .before .before .before .before .before in
+    let p = start .args .payload .now in
     let radio = get-byte (infoSize + getD p 35 0) p (omega arith) in
     sized p (omega arith) (get-byte 35 p (omega arith)) (omega arith) (omega arith) radio (omega arith)
 

@@ -8,7 +8,7 @@ use lib.ListN.{getD}
 use mir.Facts.{toZ-ofZ}
 use mir.Syntax.{w8}
 use Rattle.buffer.specs.Lay.{lay}
-use Rattle.scalar.specs.Scalars.{le, i8, unsigned}
+use Rattle.scalar.specs.Scalars.{le, sign8, unsigned}
 use Rattle.scalar.proofs.Laws.{unsigned-below}
 use Rattle.info.specs.Info.{infoHead}
 use Rattle.info.specs.Ranges.{InfoIn}
@@ -33,42 +33,48 @@ bytes-of-u64-requires-3 c κs = search needs
 
 cast-bytes-of-u64-3 : tie.Need-cast-bytes-of-u64-3
 cast-bytes-of-u64-3 c =
-    omega (arith, c .before .before .before .before .before .before .good)
+    let start = c .before .before .before .before .before .before in
+    omega (arith, start .good)
 
 bytes-of-u64-requires-4 : tie.Need-bytes-of-u64-requires-4
 bytes-of-u64-requires-4 c κs = search needs
 
 cast-bytes-of-u64-4 : tie.Need-cast-bytes-of-u64-4
 cast-bytes-of-u64-4 c =
-    omega (arith, c .before .before .before .before .before .before .before .before .good)
+    let start = c .before .before .before .before .before .before .before .before in
+    omega (arith, start .good)
 
 bytes-of-u64-requires-5 : tie.Need-bytes-of-u64-requires-5
 bytes-of-u64-requires-5 c κs = search needs
 
 cast-bytes-of-u64-5 : tie.Need-cast-bytes-of-u64-5
 cast-bytes-of-u64-5 c =
-    omega (arith, c .before .before .before .before .before .before .before .before .before .before .good)
+    let start = c .before .before .before .before .before .before .before .before .before .before in
+    omega (arith, start .good)
 
 bytes-of-u64-requires-6 : tie.Need-bytes-of-u64-requires-6
 bytes-of-u64-requires-6 c κs = search needs
 
 cast-bytes-of-u64-6 : tie.Need-cast-bytes-of-u64-6
 cast-bytes-of-u64-6 c =
-    omega (arith, c .before .before .before .before .before .before .before .before .before .before .before .before .good)
+    let start = c .before .before .before .before .before .before .before .before .before .before .before .before in
+    omega (arith, start .good)
 
 bytes-of-u64-requires-7 : tie.Need-bytes-of-u64-requires-7
 bytes-of-u64-requires-7 c κs = search needs
 
 cast-bytes-of-u64-7 : tie.Need-cast-bytes-of-u64-7
 cast-bytes-of-u64-7 c =
-    omega (arith, c .before .before .before .before .before .before .before .before .before .before .before .before .before .before .good)
+    let start = c .before .before .before .before .before .before .before .before .before .before .before .before .before .before in
+    omega (arith, start .good)
 
 bytes-of-u64-requires-8 : tie.Need-bytes-of-u64-requires-8
 bytes-of-u64-requires-8 c κs = search needs
 
 cast-bytes-of-u64-8 : tie.Need-cast-bytes-of-u64-8
 cast-bytes-of-u64-8 c =
-    omega (arith, c .before .before .before .before .before .before .before .before .before .before .before .before .before .before .before .before .good)
+    let start = c .before .before .before .before .before .before .before .before .before .before .before .before .before .before .before .before in
+    omega (arith, start .good)
 
 bytes-of-u64-requires-9 : tie.Need-bytes-of-u64-requires-9
 bytes-of-u64-requires-9 c κs = search needs
@@ -82,19 +88,33 @@ u8-of-requires-2 c κs = search needs
 returns : tie.Need-returns
 unfolding infoHead lay le
 returns c =
-    let m = c .before .before .before .before .before .before .before .before .before .before .before .before .before .before .before .before .before .before .before .before .before .args .m in
-    let r : InfoIn m = omega (arith, c .before .before .before .before .before .before .before .before .before .before .before .before .before .before .before .before .before .before .before .before .before .good) in
-    let chip = c .before .before .before .before .before .before .before .before .before .before .before .before .before .before .before .before .before .before .before .bytes-of-u64 .ensures in
-    let cap = c .before .before .before .before .before .before .before .before .before .before .before .before .before .before .before .before .before .before .bytes-of-u642 .ensures in
-    let sf = c .before .before .before .before .before .before .before .before .before .before .before .before .before .before .before .before .bytes-of-u643 .ensures in
-    let bw = c .before .before .before .before .before .before .before .before .before .before .before .before .before .before .bytes-of-u644 .ensures in
-    let most = c .before .before .before .before .before .before .before .before .before .before .before .before .bytes-of-u645 .ensures in
-    let rx = c .before .before .before .before .before .before .before .before .before .before .bytes-of-u646 .ensures in
-    let tx = c .before .before .before .before .before .before .before .before .bytes-of-u647 .ensures in
-    let low = c .before .before .before .before .before .before .bytes-of-u648 .ensures in
-    let high = c .before .before .before .before .bytes-of-u649 .ensures in
-    let weak = c .before .before .u8-of .ensures ∙ ap (unsigned i8) (toZ-ofZ {w = w8} record { sfits = r .«tx_power_min_dbm» }) ∙ sym (mod-eq-of-lt (unsigned-below i8 _ (r .«tx_power_min_dbm»))) in
-    let strong = c .u8-of2 .ensures ∙ ap (unsigned i8) (toZ-ofZ {w = w8} record { sfits = r .«tx_power_max_dbm» }) ∙ sym (mod-eq-of-lt (unsigned-below i8 _ (r .«tx_power_max_dbm»))) in
+    let back = c .before .before .before .before .before .before .before .before .before .before .before .before .before .before .before .before in
+    let start = back .before .before .before .before .before in
+    let bytes-of-u64 = back .before .before .before .bytes-of-u64 in
+    let bytes-of-u642 = back .before .before .bytes-of-u642 in
+    let bytes-of-u643 = back .bytes-of-u643 in
+    let bytes-of-u644 = c .before .before .before .before .before .before .before .before .before .before .before .before .before .before .bytes-of-u644 in
+    let bytes-of-u645 = c .before .before .before .before .before .before .before .before .before .before .before .before .bytes-of-u645 in
+    let bytes-of-u646 = c .before .before .before .before .before .before .before .before .before .before .bytes-of-u646 in
+    let bytes-of-u647 = c .before .before .before .before .before .before .before .before .bytes-of-u647 in
+    let bytes-of-u648 = c .before .before .before .before .before .before .bytes-of-u648 in
+    let bytes-of-u649 = c .before .before .before .before .bytes-of-u649 in
+    let u8-of = c .before .before .u8-of in
+    let m = start .args .m in
+    let r : InfoIn m = omega (arith, start .good) in
+    let chip = bytes-of-u64 .ensures in
+    let cap = bytes-of-u642 .ensures in
+    let sf = bytes-of-u643 .ensures in
+    let bw = bytes-of-u644 .ensures in
+    let most = bytes-of-u645 .ensures in
+    let rx = bytes-of-u646 .ensures in
+    let tx = bytes-of-u647 .ensures in
+    let low = bytes-of-u648 .ensures in
+    let high = bytes-of-u649 .ensures in
+    let a = mod-eq-of-lt (unsigned-below sign8 _ (r .«tx_power_min_dbm»)) in
+    let b = mod-eq-of-lt (unsigned-below sign8 _ (r .«tx_power_max_dbm»)) in
+    let weak = u8-of .ensures ∙ ap (unsigned sign8) (toZ-ofZ {w = w8} record { sfits = r .«tx_power_min_dbm» }) ∙ sym a in
+    let strong = c .u8-of2 .ensures ∙ ap (unsigned sign8) (toZ-ofZ {w = w8} record { sfits = r .«tx_power_max_dbm» }) ∙ sym b in
     λ i.
     sym (mod-eq-of-lt (r .«proto_major»)) i
     ∷ sym (mod-eq-of-lt (r .«proto_minor»)) i

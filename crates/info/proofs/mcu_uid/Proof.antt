@@ -19,7 +19,10 @@ part-requires c κs = search needs
 
 returns : tie.Need-returns
 unfolding mcuUid
-returns c = c .part .ensures ∙ ap (λ (n : ℕ). take n (drop infoSize (c .before .before .before .args .payload .now))) (c .before .byte .ensures)
+returns c =
+    let start = c .before .before .before in
+    let byte = c .before .byte in
+    c .part .ensures ∙ ap (λ (n : ℕ). take n (drop infoSize (start .args .payload .now))) (byte .ensures)
 
 pub mcu-uid-spec : {M : Type 1} → statement M
 mcu-uid-spec = tie.close (tie.spec byte-requires cast-part part-requires returns)

@@ -19,7 +19,9 @@ part-requires : tie.Need-part-requires
 part-requires c κs = search needs
 
 cast-from : tie.Need-cast-from
-cast-from c = omega (arith, c .before .before .before .before .before .before .good)
+cast-from c =
+    let start = c .before .before .before .before .before .before in
+    omega (arith, start .good)
 
 from-requires : tie.Need-from-requires
 from-requires c κs = search needs
@@ -32,57 +34,84 @@ slice-aggregate-copy c = search needs
 
 copy-requires : tie.Need-copy-requires
 copy-requires c κs =
-    let s = c .before .before .before .before .before .before .before .before .before in
-    let n = sizes (s .args .m) (s .args .uids .now) (c .before .before .before .before .part .ensures) (c .before .before .from .ensures) in
-    let h = ap length (c .before .before .before .before .before .before .info-head .ensures) ∙ length-head (s .args .m) in
-    omega (arith, s .pre)
+    let start = c .before .before .before .before .before .before .before .before .before in
+    let info-head = c .before .before .before .before .before .before .info-head in
+    let part = c .before .before .before .before .part in
+    let from = c .before .before .from in
+    let n = sizes (start .args .m) (start .args .uids .now) (part .ensures) (from .ensures) in
+    let h = ap length (info-head .ensures) ∙ length-head (start .args .m) in
+    omega (arith, start .pre)
 
 copy-requires-2 : tie.Need-copy-requires-2
 copy-requires-2 c κs =
-    let s = c .before .before .before .before .before .before .before .before .before .before .before .before .before in
-    let n = sizes (s .args .m) (s .args .uids .now) (c .before .before .before .before .before .before .before .before .part .ensures) (c .before .before .before .before .before .before .from .ensures) in
-    let k = c .before .before .before .copy .kept .1 .0 in
-    omega (arith, s .pre)
+    let start = c .before .before .before .before .before .before .before .before .before .before .before .before .before in
+    let part = c .before .before .before .before .before .before .before .before .part in
+    let from = c .before .before .before .before .before .before .from in
+    let copy = c .before .before .before .copy in
+    let n = sizes (start .args .m) (start .args .uids .now) (part .ensures) (from .ensures) in
+    let k = copy .kept .1 .0 in
+    omega (arith, start .pre)
 
 slice-write-dst : tie.Need-slice-write-dst
 slice-write-dst c =
-    let s = c .before .before .before .before .before .before .before .before .before .before .before .before .before .before .before .before in
-    let n = sizes (s .args .m) (s .args .uids .now) (c .before .before .before .before .before .before .before .before .before .before .before .part .ensures) (c .before .before .before .before .before .before .before .before .before .from .ensures) in
-    let k = c .before .before .copy2 .kept .1 .0 ∙ c .before .before .before .before .before .before .copy .kept .1 .0 in
-    omega (arith, s .pre)
+    let start = c .before .before .before .before .before .before .before .before .before .before .before .before .before .before .before .before in
+    let part = c .before .before .before .before .before .before .before .before .before .before .before .part in
+    let from = c .before .before .before .before .before .before .before .before .before .from in
+    let copy = c .before .before .before .before .before .before .copy in
+    let copy2 = c .before .before .copy2 in
+    let n = sizes (start .args .m) (start .args .uids .now) (part .ensures) (from .ensures) in
+    let k = copy2 .kept .1 .0 ∙ copy .kept .1 .0 in
+    omega (arith, start .pre)
 
 add-copy : tie.Need-add-copy
 add-copy c = search needs
 
 copy-requires-3 : tie.Need-copy-requires-3
 copy-requires-3 c κs =
-    let s = c .before .before .before .before .before .before .before .before .before .before .before .before .before .before .before .before .before in
-    let n = sizes (s .args .m) (s .args .uids .now) (c .before .before .before .before .before .before .before .before .before .before .before .before .part .ensures) (c .before .before .before .before .before .before .before .before .before .before .from .ensures) in
-    let k = c .before .before .before .copy2 .kept .1 .0 ∙ c .before .before .before .before .before .before .before .copy .kept .1 .0 in
-    rw length-set (omega (arith, s .pre))
+    let start = c .before .before .before .before .before .before .before .before .before .before .before .before .before .before .before .before .before in
+    let part = c .before .before .before .before .before .before .before .before .before .before .before .before .part in
+    let from = c .before .before .before .before .before .before .before .before .before .before .from in
+    let copy = c .before .before .before .before .before .before .before .copy in
+    let copy2 = c .before .before .before .copy2 in
+    let n = sizes (start .args .m) (start .args .uids .now) (part .ensures) (from .ensures) in
+    let k = copy2 .kept .1 .0 ∙ copy .kept .1 .0 in
+    rw length-set (omega (arith, start .pre))
 
 add-result : tie.Need-add-result
 add-result c = search needs
 
 add-result-2 : tie.Need-add-result-2
 add-result-2 c =
-    let s = c .before .before .before .before .before .before .before .before .before .before .before .before .before .before .before .before .before .before .before .before in
-    let n = sizes (s .args .m) (s .args .uids .now) (c .before .before .before .before .before .before .before .before .before .before .before .before .before .before .before .part .ensures) (c .before .before .before .before .before .before .before .before .before .before .before .before .before .from .ensures) in
-    omega (arith, s .pre, s .good)
+    let back = c .before .before .before .before .before .before .before .before .before .before .before .before .before .before .before .before in
+    let start = back .before .before .before .before in
+    let part = c .before .before .before .before .before .before .before .before .before .before .before .before .before .before .before .part in
+    let from = c .before .before .before .before .before .before .before .before .before .before .before .before .before .from in
+    let n = sizes (start .args .m) (start .args .uids .now) (part .ensures) (from .ensures) in
+    omega (arith, start .pre, start .good)
 
 same-length : tie.Need-same-length
 same-length c =
-    c .before .before .copy3 .kept .1 .0 ∙ rw length-set (c .before .before .before .before .before .before .copy2 .kept .1 .0 ∙ c .before .before .before .before .before .before .before .before .before .before .copy .kept .1 .0)
+    let copy = c .before .before .before .before .before .before .before .before .before .before .copy in
+    let copy2 = c .before .before .before .before .before .before .copy2 in
+    let copy3 = c .before .before .copy3 in
+    copy3 .kept .1 .0 ∙ rw length-set (copy2 .kept .1 .0 ∙ copy .kept .1 .0)
 
 returns : tie.Need-returns
 returns c =
-    let s = c .before .before .before .before .before .before .before .before .before .before .before .before .before .before .before .before .before .before .before .before in
-    let m = s .args .m in
-    let u = s .args .uids .now in
-    let a = c .before .before .before .before .before .before .before .before .before .before .before .before .before .before .before .part .ensures in
-    let b = c .before .before .before .before .before .before .before .before .before .before .before .before .before .from .ensures in (
+    let back = c .before .before .before .before .before .before .before .before .before .before .before .before .before .before .before .before in
+    let start = back .before .before .before .before in
+    let info-head = back .before .info-head in
+    let part = c .before .before .before .before .before .before .before .before .before .before .before .before .before .before .before .part in
+    let from = c .before .before .before .before .before .before .before .before .before .before .before .before .before .from in
+    let copy = c .before .before .before .before .before .before .before .before .before .before .copy in
+    let copy2 = c .before .before .before .before .before .before .copy2 in
+    let copy3 = c .before .before .copy3 in
+    let m = start .args .m in
+    let u = start .args .uids .now in
+    let a = part .ensures in
+    let b = from .ensures in (
       sym (sizes m u a b),
-      laid m u a b (c .before .before .before .before .before .before .before .before .before .before .before .before .before .before .before .before .before .info-head .ensures) (omega (arith, s .good)) (s .args .dst .now) (s .pre) (c .before .before .before .before .before .before .before .before .before .before .copy .ensures) (c .before .before .before .before .before .before .copy2 .ensures) (c .before .before .copy3 .ensures),
+      laid m u a b (info-head .ensures) (omega (arith, start .good)) (start .args .dst .now) (start .pre) (copy .ensures) (copy2 .ensures) (copy3 .ensures),
     )
 
 pub put-info-spec : {M : Type 1} → statement M

@@ -33,9 +33,12 @@ part-requires c κs = search needs
 returns : tie.Need-returns
 unfolding radioUid
 returns c =
-    let p = c .before .before .before .before .args .payload .now in
-    let mcu = c .before .before .byte .ensures in
-    let radio = c .before .byte2 .ensures ∙ ap (λ (k : ℕ). get (column (infoSize + k) 1) p) mcu in
+    let start = c .before .before .before .before in
+    let byte = c .before .before .byte in
+    let byte2 = c .before .byte2 in
+    let p = start .args .payload .now in
+    let mcu = byte .ensures in
+    let radio = byte2 .ensures ∙ ap (λ (k : ℕ). get (column (infoSize + k) 1) p) mcu in
     c .part .ensures ∙ ap₂ (λ (n k : ℕ). take n (drop (infoSize + k + 1) p)) radio mcu
 
 pub radio-uid-spec : {M : Type 1} → statement M

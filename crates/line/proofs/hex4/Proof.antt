@@ -29,7 +29,8 @@ slice-aggregate-hex c = search needs
 
 hex-requires : tie.Need-hex-requires
 hex-requires c κs =
-    rw two-bytes (c .before .before .before .pre)
+    let start = c .before .before .before in
+    rw two-bytes (start .pre)
 
 same-length : tie.Need-same-length
 same-length c = search needs

@@ -16,18 +16,23 @@ put-requires c κs = search needs
 
 decimal-requires : tie.Need-decimal-requires
 decimal-requires c κs =
-    let l0 = start _ (lastColumn (c .before .before .before .before .before .before .before .args .n)) _ (c .before .before .before .before .before .before .before .pre) in
-    let l1 = wrote (text " ") _ l0 (c .before .before .before .put .ensures) in
-    fits (decimal (c .before .before .before .before .before .before .before .args .n)) _ l1
+    let start' = c .before .before .before .before .before .before .before in
+    let put = c .before .before .before .put in
+    let l0 = start _ (lastColumn (start' .args .n)) _ (start' .pre) in
+    let l1 = wrote (text " ") _ l0 (put .ensures) in
+    fits (decimal (start' .args .n)) _ l1
 
 slice-aggregate-put-2 : tie.Need-slice-aggregate-put-2
 slice-aggregate-put-2 c = search needs
 
 put-requires-2 : tie.Need-put-requires-2
 put-requires-2 c κs =
-    let l0 = start _ (lastColumn (c .before .before .before .before .before .before .before .before .before .before .before .before .args .n)) _ (c .before .before .before .before .before .before .before .before .before .before .before .before .pre) in
-    let l1 = wrote (text " ") _ l0 (c .before .before .before .before .before .before .before .before .put .ensures) in
-    let l2 = wrote (decimal (c .before .before .before .before .before .before .before .before .before .before .before .before .args .n)) _ l1 (c .before .before .before .before .decimal .ensures) in
+    let start' = c .before .before .before .before .before .before .before .before .before .before .before .before in
+    let put = c .before .before .before .before .before .before .before .before .put in
+    let decimal' = c .before .before .before .before .decimal in
+    let l0 = start _ (lastColumn (start' .args .n)) _ (start' .pre) in
+    let l1 = wrote (text " ") _ l0 (put .ensures) in
+    let l2 = wrote (decimal (start' .args .n)) _ l1 (decimal' .ensures) in
     last-fits l2
 
 same-length : tie.Need-same-length
@@ -35,10 +40,14 @@ same-length c = search needs
 
 returns : tie.Need-returns
 returns c =
-    let l0 = start _ (lastColumn (c .before .before .before .before .before .before .before .before .before .before .before .before .before .before .before .args .n)) _ (c .before .before .before .before .before .before .before .before .before .before .before .before .before .before .before .pre) in
-    let l1 = wrote (text " ") _ l0 (c .before .before .before .before .before .before .before .before .before .before .before .put .ensures) in
-    let l2 = wrote (decimal (c .before .before .before .before .before .before .before .before .before .before .before .before .before .before .before .args .n)) _ l1 (c .before .before .before .before .before .before .before .decimal .ensures) in
-    ended _ l2 (c .before .before .put2 .ensures)
+    let start' = c .before .before .before .before .before .before .before .before .before .before .before .before .before .before .before in
+    let put = c .before .before .before .before .before .before .before .before .before .before .before .put in
+    let decimal' = c .before .before .before .before .before .before .before .decimal in
+    let put2 = c .before .before .put2 in
+    let l0 = start _ (lastColumn (start' .args .n)) _ (start' .pre) in
+    let l1 = wrote (text " ") _ l0 (put .ensures) in
+    let l2 = wrote (decimal (start' .args .n)) _ l1 (decimal' .ensures) in
+    ended _ l2 (put2 .ensures)
 
 pub last-column-spec : {M : Type 1} → statement M
 last-column-spec =

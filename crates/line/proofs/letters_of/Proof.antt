@@ -59,8 +59,11 @@ returns-10 c =
 
 returns-11 : tie.Need-returns-11
 returns-11 c =
-    let r = c .before .before .match .rest in
-    (lit≤ tt, sym (unknown _ (r .0 .0 .0 .0 .0 .0 .0 .0 .0 .1) (r .0 .0 .0 .0 .0 .0 .0 .0 .1) (r .0 .0 .0 .0 .0 .0 .0 .1) (r .0 .0 .0 .0 .0 .0 .1) (r .0 .0 .0 .0 .0 .1) (r .0 .0 .0 .0 .1) (r .0 .0 .0 .1) (r .0 .0 .1) (r .0 .1) (r .1)))
+    let match = c .before .before .match in
+    let r = match .rest in
+    let commands = r .0 .0 .0 .0 in
+    let none = unknown _ (commands .0 .0 .0 .0 .0 .1) (commands .0 .0 .0 .0 .1) (commands .0 .0 .0 .1) (commands .0 .0 .1) (commands .0 .1) (commands .1) in
+    (lit≤ tt, sym (none (r .0 .0 .0 .1) (r .0 .0 .1) (r .0 .1) (r .1)))
 
 pub letters-of-spec : {M : Type 1} → statement M
 letters-of-spec =

@@ -2,8 +2,8 @@
 -- Assumes nothing.
 use Rattle.buffer.proofs.Laying.{start, fits}
 use Rattle.text.specs.Text.{text, decimal}
-use Rattle.line.specs.Lines.{hex4, name, line}
 use Rattle.text.proofs.Writing.{wrote, last-fits, ended}
+use Rattle.line.specs.Lines.{hex4, name, twoColumns, line}
 use borrow.Author.Needs.{needs}
 use Rattle.line.proofs.line.Statement.{statement}
 use Rattle.line.proofs.line.Tie as tie
@@ -11,8 +11,9 @@ use Rattle.line.proofs.line.Tie as tie
 decimal-requires : tie.Need-decimal-requires
 unfolding line
 decimal-requires c κs =
-    let l0 = start (c .before .before .args .from) (line (c .before .before .args .at) (c .before .before .args .opened) (c .before .before .args .n)) (c .before .before .args .dst .now) (c .before .before .pre) in
-    fits (decimal (c .before .before .args .at)) _ l0
+    let s = c .before .before .args in
+    let l0 = start (s .from) (line (s .at) (s .opened) (s .n)) (s .dst .now) (c .before .before .pre) in
+    fits (decimal (s .at)) _ l0
 
 enum-known-opened : tie.Need-enum-known-opened
 enum-known-opened c = search needs
@@ -24,89 +25,72 @@ slice-aggregate-put : tie.Need-slice-aggregate-put
 slice-aggregate-put c = search needs
 
 put-requires : tie.Need-put-requires
-unfolding line
+unfolding line twoColumns
 put-requires c κs =
-    let e = c .before .before .enum-told .given .1 in
-    let l0 = rw e at (start (c .before .before .before .before .before .before .before .before .before .args .from) (line (c .before .before .before .before .before .before .before .before .before .args .at) (c .before .before .before .before .before .before .before .before .before .args .opened) (c .before .before .before .before .before .before .before .before .before .args .n)) (c .before .before .before .before .before .before .before .before .before .args .dst .now) (c .before .before .before .before .before .before .before .before .before .pre)) in
-    let l1 = wrote (decimal (c .before .before .before .before .before .before .before .before .before .args .at)) _ l0 (c .before .before .before .before .before .before .decimal .ensures) in
+    let start' = c .before .before .before .before .before .before .before .before .before in
+    let s = start' .args in
+    let decimal' = c .before .before .before .before .before .before .decimal in
+    let enum-told = c .before .before .enum-told in
+    let l0 = rw (enum-told .given .1) at (start (s .from) (line (s .at) (s .opened) (s .n)) (s .dst .now) (start' .pre)) in
+    let l1 = wrote (decimal (s .at)) _ l0 (decimal' .ensures) in
     fits (text " BAD -") _ l1
 
 last-column-requires : tie.Need-last-column-requires
-unfolding line
+unfolding line twoColumns
 last-column-requires c κs =
-    let e = c .before .before .before .before .before .before .enum-told .given .1 in
-    let l0 = rw e at (start (c .before .before .before .before .before .before .before .before .before .before .before .before .before .args .from) (line (c .before .before .before .before .before .before .before .before .before .before .before .before .before .args .at) (c .before .before .before .before .before .before .before .before .before .before .before .before .before .args .opened) (c .before .before .before .before .before .before .before .before .before .before .before .before .before .args .n)) (c .before .before .before .before .before .before .before .before .before .before .before .before .before .args .dst .now) (c .before .before .before .before .before .before .before .before .before .before .before .before .before .pre)) in
-    let l1 = wrote (decimal (c .before .before .before .before .before .before .before .before .before .before .before .before .before .args .at)) _ l0 (c .before .before .before .before .before .before .before .before .before .before .decimal .ensures) in
-    let l2 = wrote (text " BAD -") _ l1 (c .before .before .before .put .ensures) in
+    let start' = c .before .before .before .before .before .before .before .before .before .before .before .before .before in
+    let s = start' .args in
+    let decimal' = c .before .before .before .before .before .before .before .before .before .before .decimal in
+    let enum-told = c .before .before .before .before .before .before .enum-told in
+    let put = c .before .before .before .put in
+    let l0 = rw (enum-told .given .1) at (start (s .from) (line (s .at) (s .opened) (s .n)) (s .dst .now) (start' .pre)) in
+    let l1 = wrote (decimal (s .at)) _ l0 (decimal' .ensures) in
+    let l2 = wrote (text " BAD -") _ l1 (put .ensures) in
     last-fits l2
 
 same-length : tie.Need-same-length
 same-length c = search needs
 
 returns : tie.Need-returns
-unfolding line
+unfolding line twoColumns
 returns c =
-    let e = c .before .before .before .before .before .before .before .before .before .enum-told .given .1 in
-    let l0 = rw e at (start (c .before .before .before .before .before .before .before .before .before .before .before .before .before .before .before .before .args .from) (line (c .before .before .before .before .before .before .before .before .before .before .before .before .before .before .before .before .args .at) (c .before .before .before .before .before .before .before .before .before .before .before .before .before .before .before .before .args .opened) (c .before .before .before .before .before .before .before .before .before .before .before .before .before .before .before .before .args .n)) (c .before .before .before .before .before .before .before .before .before .before .before .before .before .before .before .before .args .dst .now) (c .before .before .before .before .before .before .before .before .before .before .before .before .before .before .before .before .pre)) in
-    let l1 = wrote (decimal (c .before .before .before .before .before .before .before .before .before .before .before .before .before .before .before .before .args .at)) _ l0 (c .before .before .before .before .before .before .before .before .before .before .before .before .before .decimal .ensures) in
-    let l2 = wrote (text " BAD -") _ l1 (c .before .before .before .before .before .before .put .ensures) in
-    rw e (ended _ l2 (c .before .before .last-column .ensures))
+    let start' = c .before .before .before .before .before .before .before .before .before .before .before .before .before .before .before .before in
+    let s = start' .args in
+    let decimal' = c .before .before .before .before .before .before .before .before .before .before .before .before .before .decimal in
+    let enum-told = c .before .before .before .before .before .before .before .before .before .enum-told in
+    let put = c .before .before .before .before .before .before .put in
+    let last-column = c .before .before .last-column in
+    let e = enum-told .given .1 in
+    let l0 = rw e at (start (s .from) (line (s .at) (s .opened) (s .n)) (s .dst .now) (start' .pre)) in
+    let l1 = wrote (decimal (s .at)) _ l0 (decimal' .ensures) in
+    let l2 = wrote (text " BAD -") _ l1 (put .ensures) in
+    rw e (ended _ l2 (last-column .ensures))
 
-slice-aggregate-put-2 : tie.Need-slice-aggregate-put-2
-slice-aggregate-put-2 c = search needs
-
-put-requires-2 : tie.Need-put-requires-2
+type-and-tag-requires : tie.Need-type-and-tag-requires
 unfolding line
-put-requires-2 c κs =
-    let e = c .before .before .before .opened .given .1 in
-    let l0 = rw e at (start (c .before .before .before .before .before .before .before .before .before .before .args .from) (line (c .before .before .before .before .before .before .before .before .before .before .args .at) (c .before .before .before .before .before .before .before .before .before .before .args .opened) (c .before .before .before .before .before .before .before .before .before .before .args .n)) (c .before .before .before .before .before .before .before .before .before .before .args .dst .now) (c .before .before .before .before .before .before .before .before .before .before .pre)) in
-    let l1 = wrote (decimal (c .before .before .before .before .before .before .before .before .before .before .args .at)) _ l0 (c .before .before .before .before .before .before .before .decimal .ensures) in
-    fits (text " ") _ l1
-
-name-requires : tie.Need-name-requires
-unfolding line
-name-requires c κs =
-    let e = c .before .before .before .before .before .before .before .opened .given .1 in
-    let l0 = rw e at (start (c .before .before .before .before .before .before .before .before .before .before .before .before .before .before .args .from) (line (c .before .before .before .before .before .before .before .before .before .before .before .before .before .before .args .at) (c .before .before .before .before .before .before .before .before .before .before .before .before .before .before .args .opened) (c .before .before .before .before .before .before .before .before .before .before .before .before .before .before .args .n)) (c .before .before .before .before .before .before .before .before .before .before .before .before .before .before .args .dst .now) (c .before .before .before .before .before .before .before .before .before .before .before .before .before .before .pre)) in
-    let l1 = wrote (decimal (c .before .before .before .before .before .before .before .before .before .before .before .before .before .before .args .at)) _ l0 (c .before .before .before .before .before .before .before .before .before .before .before .decimal .ensures) in
-    let l2 = wrote (text " ") _ l1 (c .before .before .before .put2 .ensures) in
-    fits (name _) _ l2
-
-slice-aggregate-put-3 : tie.Need-slice-aggregate-put-3
-slice-aggregate-put-3 c = search needs
-
-put-requires-3 : tie.Need-put-requires-3
-unfolding line
-put-requires-3 c κs =
-    let e = c .before .before .before .before .before .before .before .before .before .before .before .before .opened .given .1 in
-    let l0 = rw e at (start (c .before .before .before .before .before .before .before .before .before .before .before .before .before .before .before .before .before .before .before .args .from) (line (c .before .before .before .before .before .before .before .before .before .before .before .before .before .before .before .before .before .before .before .args .at) (c .before .before .before .before .before .before .before .before .before .before .before .before .before .before .before .before .before .before .before .args .opened) (c .before .before .before .before .before .before .before .before .before .before .before .before .before .before .before .before .before .before .before .args .n)) (c .before .before .before .before .before .before .before .before .before .before .before .before .before .before .before .before .before .before .before .args .dst .now) (c .before .before .before .before .before .before .before .before .before .before .before .before .before .before .before .before .before .before .before .pre)) in
-    let l1 = wrote (decimal (c .before .before .before .before .before .before .before .before .before .before .before .before .before .before .before .before .before .before .before .args .at)) _ l0 (c .before .before .before .before .before .before .before .before .before .before .before .before .before .before .before .before .decimal .ensures) in
-    let l2 = wrote (text " ") _ l1 (c .before .before .before .before .before .before .before .before .put2 .ensures) in
-    let l3 = wrote (name _) _ l2 (c .before .before .before .before .name .ensures) in
-    fits (text " ") _ l3
-
-hex4-requires : tie.Need-hex4-requires
-unfolding line
-hex4-requires c κs =
-    let e = c .before .before .before .before .before .before .before .before .before .before .before .before .before .before .before .before .opened .given .1 in
-    let l0 = rw e at (start (c .before .before .before .before .before .before .before .before .before .before .before .before .before .before .before .before .before .before .before .before .before .before .before .args .from) (line (c .before .before .before .before .before .before .before .before .before .before .before .before .before .before .before .before .before .before .before .before .before .before .before .args .at) (c .before .before .before .before .before .before .before .before .before .before .before .before .before .before .before .before .before .before .before .before .before .before .before .args .opened) (c .before .before .before .before .before .before .before .before .before .before .before .before .before .before .before .before .before .before .before .before .before .before .before .args .n)) (c .before .before .before .before .before .before .before .before .before .before .before .before .before .before .before .before .before .before .before .before .before .before .before .args .dst .now) (c .before .before .before .before .before .before .before .before .before .before .before .before .before .before .before .before .before .before .before .before .before .before .before .pre)) in
-    let l1 = wrote (decimal (c .before .before .before .before .before .before .before .before .before .before .before .before .before .before .before .before .before .before .before .before .before .before .before .args .at)) _ l0 (c .before .before .before .before .before .before .before .before .before .before .before .before .before .before .before .before .before .before .before .before .decimal .ensures) in
-    let l2 = wrote (text " ") _ l1 (c .before .before .before .before .before .before .before .before .before .before .before .before .put2 .ensures) in
-    let l3 = wrote (name _) _ l2 (c .before .before .before .before .before .before .before .before .name .ensures) in
-    let l4 = wrote (text " ") _ l3 (c .before .before .before .put3 .ensures) in
-    fits (hex4 _) _ l4
+type-and-tag-requires c κs =
+    let start' = c .before .before .before .before .before .before .before .before .before in
+    let s = start' .args in
+    let decimal' = c .before .before .before .before .before .before .decimal in
+    let opened = c .before .before .opened in
+    let o = opened .given in
+    let l0 = rw (o .1) at (start (s .from) (line (s .at) (s .opened) (s .n)) (s .dst .now) (start' .pre)) in
+    let l1 = wrote (decimal (s .at)) _ l0 (decimal' .ensures) in
+    fits (twoColumns (name _) (hex4 _)) _ l1
 
 last-column-requires-2 : tie.Need-last-column-requires-2
 unfolding line
 last-column-requires-2 c κs =
-    let e = c .before .before .before .before .before .before .before .before .before .before .before .before .before .before .before .before .before .before .before .before .opened .given .1 in
-    let l0 = rw e at (start (c .before .before .before .before .before .before .before .before .before .before .before .before .before .before .before .before .before .before .before .before .before .before .before .before .before .before .before .args .from) (line (c .before .before .before .before .before .before .before .before .before .before .before .before .before .before .before .before .before .before .before .before .before .before .before .before .before .before .before .args .at) (c .before .before .before .before .before .before .before .before .before .before .before .before .before .before .before .before .before .before .before .before .before .before .before .before .before .before .before .args .opened) (c .before .before .before .before .before .before .before .before .before .before .before .before .before .before .before .before .before .before .before .before .before .before .before .before .before .before .before .args .n)) (c .before .before .before .before .before .before .before .before .before .before .before .before .before .before .before .before .before .before .before .before .before .before .before .before .before .before .before .args .dst .now) (c .before .before .before .before .before .before .before .before .before .before .before .before .before .before .before .before .before .before .before .before .before .before .before .before .before .before .before .pre)) in
-    let l1 = wrote (decimal (c .before .before .before .before .before .before .before .before .before .before .before .before .before .before .before .before .before .before .before .before .before .before .before .before .before .before .before .args .at)) _ l0 (c .before .before .before .before .before .before .before .before .before .before .before .before .before .before .before .before .before .before .before .before .before .before .before .before .decimal .ensures) in
-    let l2 = wrote (text " ") _ l1 (c .before .before .before .before .before .before .before .before .before .before .before .before .before .before .before .before .put2 .ensures) in
-    let l3 = wrote (name _) _ l2 (c .before .before .before .before .before .before .before .before .before .before .before .before .name .ensures) in
-    let l4 = wrote (text " ") _ l3 (c .before .before .before .before .before .before .before .put3 .ensures) in
-    let l5 = wrote (hex4 _) _ l4 (c .before .before .before .hex4 .ensures) in
-    last-fits l5
+    let start' = c .before .before .before .before .before .before .before .before .before .before .before .before .before in
+    let s = start' .args in
+    let decimal' = c .before .before .before .before .before .before .before .before .before .before .decimal in
+    let opened = c .before .before .before .before .before .before .opened in
+    let type-and-tag = c .before .before .before .type-and-tag in
+    let o = opened .given in
+    let l0 = rw (o .1) at (start (s .from) (line (s .at) (s .opened) (s .n)) (s .dst .now) (start' .pre)) in
+    let l1 = wrote (decimal (s .at)) _ l0 (decimal' .ensures) in
+    let l2 = wrote (twoColumns (name _) (hex4 _)) _ l1 (type-and-tag .ensures) in
+    last-fits l2
 
 same-length-2 : tie.Need-same-length-2
 same-length-2 c = search needs
@@ -114,14 +98,17 @@ same-length-2 c = search needs
 returns-2 : tie.Need-returns-2
 unfolding line
 returns-2 c =
-    let e = c .before .before .before .before .before .before .before .before .before .before .before .before .before .before .before .before .before .before .before .before .before .before .before .opened .given .1 in
-    let l0 = rw e at (start (c .before .before .before .before .before .before .before .before .before .before .before .before .before .before .before .before .before .before .before .before .before .before .before .before .before .before .before .before .before .before .args .from) (line (c .before .before .before .before .before .before .before .before .before .before .before .before .before .before .before .before .before .before .before .before .before .before .before .before .before .before .before .before .before .before .args .at) (c .before .before .before .before .before .before .before .before .before .before .before .before .before .before .before .before .before .before .before .before .before .before .before .before .before .before .before .before .before .before .args .opened) (c .before .before .before .before .before .before .before .before .before .before .before .before .before .before .before .before .before .before .before .before .before .before .before .before .before .before .before .before .before .before .args .n)) (c .before .before .before .before .before .before .before .before .before .before .before .before .before .before .before .before .before .before .before .before .before .before .before .before .before .before .before .before .before .before .args .dst .now) (c .before .before .before .before .before .before .before .before .before .before .before .before .before .before .before .before .before .before .before .before .before .before .before .before .before .before .before .before .before .before .pre)) in
-    let l1 = wrote (decimal (c .before .before .before .before .before .before .before .before .before .before .before .before .before .before .before .before .before .before .before .before .before .before .before .before .before .before .before .before .before .before .args .at)) _ l0 (c .before .before .before .before .before .before .before .before .before .before .before .before .before .before .before .before .before .before .before .before .before .before .before .before .before .before .before .decimal .ensures) in
-    let l2 = wrote (text " ") _ l1 (c .before .before .before .before .before .before .before .before .before .before .before .before .before .before .before .before .before .before .before .put2 .ensures) in
-    let l3 = wrote (name _) _ l2 (c .before .before .before .before .before .before .before .before .before .before .before .before .before .before .before .name .ensures) in
-    let l4 = wrote (text " ") _ l3 (c .before .before .before .before .before .before .before .before .before .before .put3 .ensures) in
-    let l5 = wrote (hex4 _) _ l4 (c .before .before .before .before .before .before .hex4 .ensures) in
-    rw e (ended _ l5 (c .before .before .last-column2 .ensures))
+    let start' = c .before .before .before .before .before .before .before .before .before .before .before .before .before .before .before .before in
+    let s = start' .args in
+    let decimal' = c .before .before .before .before .before .before .before .before .before .before .before .before .before .decimal in
+    let opened = c .before .before .before .before .before .before .before .before .before .opened in
+    let type-and-tag = c .before .before .before .before .before .before .type-and-tag in
+    let last-column2 = c .before .before .last-column2 in
+    let o = opened .given in
+    let l0 = rw (o .1) at (start (s .from) (line (s .at) (s .opened) (s .n)) (s .dst .now) (start' .pre)) in
+    let l1 = wrote (decimal (s .at)) _ l0 (decimal' .ensures) in
+    let l2 = wrote (twoColumns (name _) (hex4 _)) _ l1 (type-and-tag .ensures) in
+    rw (o .1) (ended _ l2 (last-column2 .ensures))
 
 pub line-spec : {M : Type 1} → statement M
 line-spec =
@@ -135,12 +122,7 @@ line-spec =
     last-column-requires
     same-length
     returns
-    slice-aggregate-put-2
-    put-requires-2
-    name-requires
-    slice-aggregate-put-3
-    put-requires-3
-    hex4-requires
+    type-and-tag-requires
     last-column-requires-2
     same-length-2
     returns-2)

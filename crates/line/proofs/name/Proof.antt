@@ -18,14 +18,18 @@ slice-aggregate-put c =
 
 put-requires : tie.Need-put-requires
 put-requires c κs =
-    rw (c .before .before .before .letters-of .ensures .1) (c .before .before .before .before .before .pre)
+    let start = c .before .before .before .before .before in
+    let letters-of = c .before .before .before .letters-of in
+    rw (letters-of .ensures .1) (start .pre)
 
 same-length : tie.Need-same-length
 same-length c = search needs
 
 returns : tie.Need-returns
 returns c =
-    rw (c .before .before .before .before .before .before .letters-of .ensures .1) at (c .before .before .put .ensures)
+    let letters-of = c .before .before .before .before .before .before .letters-of in
+    let put = c .before .before .put in
+    rw (letters-of .ensures .1) at (put .ensures)
 
 pub name-spec : {M : Type 1} → statement M
 name-spec =

@@ -15,7 +15,10 @@ done-requires c κs = search needs
 
 returns : tie.Need-returns
 returns c =
-    rw (no-run (c .before .before .before .before .before .args .run .now) (c .before .before .before .before .before .args .commands .now) (c .before .before .before .before .before .args .d) (c .before .if1 .taken)) (record { gives = quiet _ _ _ 0 (c .done .ensures); commands = refl })
+    let start = c .before .before .before .before .before in
+    let if1 = c .before .if1 in
+    rw (no-run (start .args .run .now) (start .args .commands .now) (start .args .d) (if1 .taken))
+    (record { gives = quiet _ _ _ 0 (c .done .ensures); commands = refl })
 
 with-link-requires : tie.Need-with-link-requires
 with-link-requires c κs = search needs
@@ -28,7 +31,12 @@ same-length c = search needs
 
 returns-2 : tie.Need-returns-2
 returns-2 c =
-    rw (long-run (c .before .before .before .before .before .before .before .before .before .before .args .run .now) (c .before .before .before .before .before .before .before .before .before .before .args .commands .now) (c .before .before .before .before .before .before .before .before .before .before .args .d) (c .before .before .before .before .if2 .taken)) (record { gives = rw (c .before .before .before .before .before .with-link .ensures) at (c .before .before .damaged .ensures); commands = refl })
+    let start = c .before .before .before .before .before .before .before .before .before .before in
+    let with-link = c .before .before .before .before .before .with-link in
+    let if2 = c .before .before .before .before .if2 in
+    let damaged = c .before .before .damaged in
+    rw (long-run (start .args .run .now) (start .args .commands .now) (start .args .d) (if2 .taken))
+    (record { gives = rw (with-link .ensures) at (damaged .ensures); commands = refl })
 
 receive-requires : tie.Need-receive-requires
 receive-requires c κs = search needs
@@ -38,7 +46,12 @@ same-length-2 c = search needs
 
 returns-3 : tie.Need-returns-3
 returns-3 c =
-    rw (short-run (c .before .before .before .before .before .before .before .before .before .before .before .before .args .run .now) (c .before .before .before .before .before .before .before .before .before .before .before .before .args .commands .now) (c .before .before .before .before .before .before .before .before .before .before .before .before .args .d) (c .before .before .before .before .before .before .before .before .if1 .left) (c .before .before .before .before .before .before .if2 .left)) (rw (c .before .before .before .before .before .before .before .with-link .ensures) at (c .before .before .receive .ensures))
+    let start = c .before .before .before .before .before .before .before .before .before .before .before .before in
+    let if1 = c .before .before .before .before .before .before .before .before .if1 in
+    let with-link = c .before .before .before .before .before .before .before .with-link in
+    let if2 = c .before .before .before .before .before .before .if2 in
+    let receive = c .before .before .receive in
+    rw (short-run (start .args .run .now) (start .args .commands .now) (start .args .d) (if1 .left) (if2 .left)) (rw (with-link .ensures) at (receive .ensures))
 
 pub end-run-spec : {M : Type 1} → statement M
 end-run-spec =

@@ -1,7 +1,7 @@
 -- Each answer is where the chain of tests in its definition ends (Laws).
 -- Assumes nothing.
 use mathlib.Core.Path.{refl}
-use Rattle.control.proofs.Laws.{tells-refusal, tells-quiet}
+use Rattle.control.proofs.Laws.{returns-refusal, returns-quiet}
 use Rattle.link.specs.Link.{joinOut}
 use Rattle.link.proofs.Laws.{no-room, stalls, join-enters}
 use borrow.Author.Needs.{needs}
@@ -14,7 +14,7 @@ refuse-requires c κs = search needs
 returns : tie.Need-returns
 unfolding joinOut
 returns c =
-    rw (no-room _ _ _ (c .before .before .args .d) _ (c .before .if1 .taken)) (tells-refusal _ _ (c .refuse .ensures), refl)
+    rw (no-room _ _ _ (c .before .before .args .d) _ (c .before .if1 .taken)) (returns-refusal _ _ (c .refuse .ensures), refl)
 
 is-stalled-requires : tie.Need-is-stalled-requires
 is-stalled-requires c κs = search needs
@@ -25,8 +25,12 @@ refuse-requires-2 c κs = search needs
 returns-2 : tie.Need-returns-2
 unfolding joinOut
 returns-2 c =
-    let s = rw (c .before .before .is-stalled .ensures) at (c .before .if2 .taken) in
-    rw (stalls _ _ _ (c .before .before .before .before .before .args .d) _ (c .before .before .before .before .if1 .left) s) (tells-refusal _ _ (c .refuse2 .ensures), refl)
+    let start = c .before .before .before .before .before in
+    let if1 = c .before .before .before .before .if1 in
+    let is-stalled = c .before .before .is-stalled in
+    let if2 = c .before .if2 in
+    let s = rw (is-stalled .ensures) at (if2 .taken) in
+    rw (stalls _ _ _ (start .args .d) _ (if1 .left) s) (returns-refusal _ _ (c .refuse2 .ensures), refl)
 
 keep-requires : tie.Need-keep-requires
 keep-requires c κs = search needs
@@ -40,8 +44,14 @@ accept-requires c κs = search needs
 returns-3 : tie.Need-returns-3
 returns-3 c =
     let a = c .before .before .before .before .before .before .before .before .before .args in
-    let s = rw (c .before .before .before .before .before .before .is-stalled .ensures) at (c .before .before .before .before .before .if2 .left) in
-    rw (join-enters (a .room) (a .b) (a .run .now) (a .d) (c .before .before .before .before .before .before .before .before .if1 .left) s) (tells-quiet _ _ (rw (c .before .with-link .ensures, c .before .before .keep .ensures .0) at (c .accept .ensures)), c .before .before .keep .ensures .1)
+    let if1 = c .before .before .before .before .before .before .before .before .if1 in
+    let is-stalled = c .before .before .before .before .before .before .is-stalled in
+    let if2 = c .before .before .before .before .before .if2 in
+    let keep = c .before .before .keep in
+    let with-link = c .before .with-link in
+    let s = rw (is-stalled .ensures) at (if2 .left) in
+    rw (join-enters (a .room) (a .b) (a .run .now) (a .d) (if1 .left) s)
+    (returns-quiet _ _ (rw (with-link .ensures, keep .ensures .0) at (c .accept .ensures)), keep .ensures .1)
 
 pub join-spec : {M : Type 1} → statement M
 join-spec =

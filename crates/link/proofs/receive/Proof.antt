@@ -13,7 +13,8 @@ use Rattle.link.proofs.receive.Tie as tie
 
 slice-aggregate-unpack : tie.Need-slice-aggregate-unpack
 slice-aggregate-unpack c =
-    sym (length-take-le _ (c .before .before .before .args .run .now) (c .before .before .before .pre .0))
+    let start = c .before .before .before in
+    sym (length-take-le _ (start .args .run .now) (start .pre .0))
 
 slice-aggregate-unpack-2 : tie.Need-slice-aggregate-unpack-2
 slice-aggregate-unpack-2 c = search needs
@@ -35,8 +36,12 @@ same-length c = search needs
 
 returns : tie.Need-returns
 returns c =
-    let e = sym (c .before .before .before .before .before .before .before .unpack .ensures .0) ∙ c .before .before .before .before .enum-told .given .1 in
-    rw (refused-run (take (c .before .before .before .before .before .before .before .before .before .before .before .before .args .n) (c .before .before .before .before .before .before .before .before .before .before .before .before .args .run .now)) e) (record { gives = c .before .before .damaged .ensures; commands = refl })
+    let start = c .before .before .before .before .before .before .before .before .before .before .before .before in
+    let unpack = c .before .before .before .before .before .before .before .unpack in
+    let enum-told = c .before .before .before .before .enum-told in
+    let damaged = c .before .before .damaged in
+    let e = sym (unpack .ensures .0) ∙ enum-told .given .1 in
+    rw (refused-run (take (start .args .n) (start .args .run .now)) e) (record { gives = damaged .ensures; commands = refl })
 
 damaged-requires-2 : tie.Need-damaged-requires-2
 damaged-requires-2 c κs = search needs
@@ -46,13 +51,21 @@ same-length-2 c = search needs
 
 returns-2 : tie.Need-returns-2
 returns-2 c =
-    let e = sym (c .before .before .before .before .before .before .before .before .before .unpack .ensures .0) ∙ c .before .before .before .before .before .before .opened .given .1 in
-    rw (untagged-run (take (c .before .before .before .before .before .before .before .before .before .before .before .before .before .before .args .n) (c .before .before .before .before .before .before .before .before .before .before .before .before .before .before .args .run .now)) e (c .before .before .before .before .if1 .taken)) (record { gives = c .before .before .damaged2 .ensures; commands = refl })
+    let start = c .before .before .before .before .before .before .before .before .before .before .before .before .before .before in
+    let unpack = c .before .before .before .before .before .before .before .before .before .unpack in
+    let opened = c .before .before .before .before .before .before .opened in
+    let if1 = c .before .before .before .before .if1 in
+    let damaged2 = c .before .before .damaged2 in
+    let e = sym (unpack .ensures .0) ∙ opened .given .1 in
+    rw (untagged-run (take (start .args .n) (start .args .run .now)) e (if1 .taken)) (record { gives = damaged2 .ensures; commands = refl })
 
 add-dispatch : tie.Need-add-dispatch
 add-dispatch c =
-    let e = sym (c .before .before .before .before .before .unpack .ensures .0) ∙ c .before .before .opened .given .1 in
-    let o = opens-facts (take (c .before .before .before .before .before .before .before .before .before .before .args .n) (c .before .before .before .before .before .before .before .before .before .before .args .run .now)) encodedMax e in
+    let start = c .before .before .before .before .before .before .before .before .before .before in
+    let unpack = c .before .before .before .before .before .unpack in
+    let opened = c .before .before .opened in
+    let e = sym (unpack .ensures .0) ∙ opened .given .1 in
+    let o = opens-facts (take (start .args .n) (start .args .run .now)) encodedMax e in
     omega (arith, o .most)
 
 sub-dispatch : tie.Need-sub-dispatch
@@ -63,9 +76,12 @@ part-dispatch-start c = search needs
 
 part-dispatch-end : tie.Need-part-dispatch-end
 part-dispatch-end c =
-    let e = sym (c .before .before .before .before .before .before .unpack .ensures .0) ∙ c .before .before .before .opened .given .1 in
-    let o = opens-facts (take (c .before .before .before .before .before .before .before .before .before .before .before .args .n) (c .before .before .before .before .before .before .before .before .before .before .before .args .run .now)) encodedMax e in
-    omega (arith, o .most, c .before .before .before .before .before .before .unpack .kept .1 .1 .0)
+    let start = c .before .before .before .before .before .before .before .before .before .before .before in
+    let unpack = c .before .before .before .before .before .before .unpack in
+    let opened = c .before .before .before .opened in
+    let e = sym (unpack .ensures .0) ∙ opened .given .1 in
+    let o = opens-facts (take (start .args .n) (start .args .run .now)) encodedMax e in
+    omega (arith, o .most, unpack .kept .1 .1 .0)
 
 dispatch-requires : tie.Need-dispatch-requires
 dispatch-requires c κs = search needs
@@ -75,10 +91,15 @@ same-length-3 c = search needs
 
 returns-3 : tie.Need-returns-3
 returns-3 c =
-    let run = take (c .before .before .before .before .before .before .before .before .before .before .before .before .before .before .before .before .before .args .n) (c .before .before .before .before .before .before .before .before .before .before .before .before .before .before .before .before .before .args .run .now) in
-    let e = sym (c .before .before .before .before .before .before .before .before .before .before .before .before .unpack .ensures .0) ∙ c .before .before .before .before .before .before .before .before .before .opened .given .1 in
-    let p = payload-seen run encodedMax (c .before .before .before .before .before .before .before .before .before .before .before .before .unpack .last .1 .1 .0) e (c .before .before .before .before .before .before .before .before .before .before .before .before .unpack .ensures .1) in
-    rw (tagged-run run e (c .before .before .before .before .before .before .before .if1 .left)) (rw p at (c .before .before .dispatch .ensures))
+    let start = c .before .before .before .before .before .before .before .before .before .before .before .before .before .before .before .before .before in
+    let unpack = c .before .before .before .before .before .before .before .before .before .before .before .before .unpack in
+    let opened = c .before .before .before .before .before .before .before .before .before .opened in
+    let if1 = c .before .before .before .before .before .before .before .if1 in
+    let dispatch = c .before .before .dispatch in
+    let run = take (start .args .n) (start .args .run .now) in
+    let e = sym (unpack .ensures .0) ∙ opened .given .1 in
+    let p = payload-seen run encodedMax (unpack .last .1 .1 .0) e (unpack .ensures .1) in
+    rw (tagged-run run e (if1 .left)) (rw p at (dispatch .ensures))
 
 pub receive-spec : {M : Type 1} → statement M
 receive-spec =

@@ -14,7 +14,9 @@ refuse-requires c κs = search needs
 returns : tie.Need-returns
 unfolding byteOut
 returns c =
-    rw (no-room _ _ _ (c .before .before .before .args .d) _ (c .before .if1 .taken)) (record { answers = refusal _ _ _ (c .refuse .ensures); run = refl; commands = refl })
+    let start = c .before .before .before in
+    let if1 = c .before .if1 in
+    rw (no-room _ _ _ (start .args .d) _ (if1 .taken)) (record { answers = refusal _ _ _ (c .refuse .ensures); run = refl; commands = refl })
 
 is-stalled-requires : tie.Need-is-stalled-requires
 is-stalled-requires c κs = search needs
@@ -25,8 +27,12 @@ refuse-requires-2 c κs = search needs
 returns-2 : tie.Need-returns-2
 unfolding byteOut
 returns-2 c =
-    let s = rw (c .before .before .is-stalled .ensures) at (c .before .if2 .taken) in
-    rw (stalls _ _ _ (c .before .before .before .before .before .before .args .d) _ (c .before .before .before .before .if1 .left) s) (record { answers = refusal _ _ _ (c .refuse2 .ensures); run = refl; commands = refl })
+    let start = c .before .before .before .before .before .before in
+    let if1 = c .before .before .before .before .if1 in
+    let is-stalled = c .before .before .is-stalled in
+    let if2 = c .before .if2 in
+    let s = rw (is-stalled .ensures) at (if2 .taken) in
+    rw (stalls _ _ _ (start .args .d) _ (if1 .left) s) (record { answers = refusal _ _ _ (c .refuse2 .ensures); run = refl; commands = refl })
 
 end-run-requires : tie.Need-end-run-requires
 end-run-requires c κs = search needs
@@ -40,8 +46,14 @@ same-length c = search needs
 returns-3 : tie.Need-returns-3
 unfolding byteOut
 returns-3 c =
-    let s = rw (c .before .before .before .before .before .before .before .is-stalled .ensures) at (c .before .before .before .before .before .before .if2 .left) in
-    rw (enters _ _ _ (c .before .before .before .before .before .before .before .before .before .before .before .args .d) _ (c .before .before .before .before .before .before .before .before .before .if1 .left) s) (record { answers = takes _ (c .before .before .before .end-run .ensures .gives) (c .take .ensures); run = refl; commands = c .before .before .before .end-run .ensures .commands })
+    let start = c .before .before .before .before .before .before .before .before .before .before .before in
+    let if1 = c .before .before .before .before .before .before .before .before .before .if1 in
+    let is-stalled = c .before .before .before .before .before .before .before .is-stalled in
+    let if2 = c .before .before .before .before .before .before .if2 in
+    let end-run = c .before .before .before .end-run in
+    let s = rw (is-stalled .ensures) at (if2 .left) in
+    rw (enters _ _ _ (start .args .d) _ (if1 .left) s)
+    (record { answers = takes _ (end-run .ensures .gives) (c .take .ensures); run = refl; commands = end-run .ensures .commands })
 
 pub zero-spec : {M : Type 1} → statement M
 zero-spec =

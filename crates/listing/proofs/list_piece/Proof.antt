@@ -53,13 +53,24 @@ same-length-3 c = search needs
 
 returns-2 : tie.Need-returns-2
 returns-2 c =
-    let m = fed-goes-on _ _ _ _ (c .before .before .before .before .before .feed .ensures .0) in
-    omega (arith, m, c .before .before .before .before .before .before .before .before .before .if2 .left, c .if3 .taken, c .before .before .before .before .before .before .before .before .before .before .count .ensures .0, c .before .before .before .before .before .before .before .before .before .before .before .before .before .before .read .kept .1 .0, c .before .before .before .before .before .before .before .before .before .before .before .before .before .before .before .before .buffer .ensures)
+    let buffer = c .before .before .before .before .before .before .before .before .before .before .before .before .before .before .before .before .buffer in
+    let read = c .before .before .before .before .before .before .before .before .before .before .before .before .before .before .read in
+    let count = c .before .before .before .before .before .before .before .before .before .before .count in
+    let if2 = c .before .before .before .before .before .before .before .before .before .if2 in
+    let feed = c .before .before .before .before .before .feed in
+    let m = fed-goes-on _ _ _ _ (feed .ensures .0) in
+    omega (arith, m, if2 .left, c .if3 .taken, count .ensures .0, read .kept .1 .0, buffer .ensures)
 
 flush-requires-2 : tie.Need-flush-requires-2
 flush-requires-2 c κs =
-    let m = fed-fills _ _ _ _ (c .before .before .before .before .before .before .feed .ensures .0) in
-    omega (arith, m, c .before .before .before .before .before .before .feed .kept .1 .1 .1 .0, c .before .before .before .before .before .before .before .before .before .before .before .count .ensures .0, c .before .before .before .before .before .before .before .before .before .before .before .before .before .before .before .read .kept .1 .0, c .before .before .before .before .before .before .before .before .before .before .before .before .before .before .before .before .before .buffer .ensures, c .before .before .before .before .before .before .before .before .before .before .before .before .before .before .before .before .before .before .before .before .pre)
+    let back = c .before .before .before .before .before .before .before .before .before .before .before .before .before .before .before .before in
+    let start = back .before .before .before .before in
+    let buffer = back .before .buffer in
+    let read = c .before .before .before .before .before .before .before .before .before .before .before .before .before .before .before .read in
+    let count = c .before .before .before .before .before .before .before .before .before .before .before .count in
+    let feed = c .before .before .before .before .before .before .feed in
+    let m = fed-fills _ _ _ _ (feed .ensures .0) in
+    omega (arith, m, feed .kept .1 .1 .1 .0, count .ensures .0, read .kept .1 .0, buffer .ensures, start .pre)
 
 same-length-4 : tie.Need-same-length-4
 same-length-4 c = search needs
@@ -69,8 +80,14 @@ same-length-5 c = search needs
 
 returns-3 : tie.Need-returns-3
 returns-3 c =
-    let m = fed-goes-on _ _ _ _ (c .before .before .before .before .before .before .before .before .feed .ensures .0) in
-    omega (arith, m, c .before .before .before .before .before .before .before .before .before .before .before .before .if2 .left, c .before .before .before .before .before .before .before .before .before .before .before .before .before .count .ensures .0, c .before .before .before .before .before .before .before .before .before .before .before .before .before .before .before .before .before .read .kept .1 .0, c .before .before .before .before .before .before .before .before .before .before .before .before .before .before .before .before .before .before .before .buffer .ensures)
+    let back = c .before .before .before .before .before .before .before .before .before .before .before .before .before .before .before .before in
+    let buffer = back .before .before .before .buffer in
+    let read = back .before .read in
+    let count = c .before .before .before .before .before .before .before .before .before .before .before .before .before .count in
+    let if2 = c .before .before .before .before .before .before .before .before .before .before .before .before .if2 in
+    let feed = c .before .before .before .before .before .before .before .before .feed in
+    let m = fed-goes-on _ _ _ _ (feed .ensures .0) in
+    omega (arith, m, if2 .left, count .ensures .0, read .kept .1 .0, buffer .ensures)
 
 same-length-6 : tie.Need-same-length-6
 same-length-6 c = search needs

@@ -6,7 +6,7 @@ use native.Mathlib.Omega.{arith}
 use lib.ListN.{length}
 use Rattle.cobs.specs.Answers.{encodedMax}
 use Rattle.capture.specs.Listing.{heading}
-use Rattle.capture.specs.Stream.{started}
+use Rattle.capture.specs.Stream.{startStream}
 use Rattle.listing.specs.Turns.{pieceMax, output, filledMax, listedMax}
 use borrow.Author.Needs.{needs}
 use Rattle.listing.proofs.main.Statement.{statement}
@@ -29,8 +29,11 @@ unfolding heading
 start-requires c κs = omega (arith, c .before .output .ensures)
 
 loop-holds : tie.Need-loop-holds Inv-loop μ-loop
-unfolding heading started
-loop-holds c = rw (c .before .start .ensures .0) (omega (arith, c .before .before .before .output .ensures, c .before .start .kept .0))
+unfolding heading startStream
+loop-holds c =
+    let output = c .before .before .before .output in
+    let start = c .before .start in
+    rw (start .ensures .0) (omega (arith, output .ensures, start .kept .0))
 
 add-if1 : tie.Need-add-if1 Inv-loop μ-loop
 add-if1 c = search needs
@@ -55,13 +58,20 @@ returns c = search needs
 
 loop-less : tie.Need-loop-less Inv-loop μ-loop
 loop-less c =
-    let g = rw (c .before .t .given .1) at (c .before .before .before .before .before .list-piece .ensures) in
-    omega (arith, g .0, c .before .before .before .before .before .before .before .before .if1 .taken)
+    let if1 = c .before .before .before .before .before .before .before .before .if1 in
+    let list-piece = c .before .before .before .before .before .list-piece in
+    let t = c .before .t in
+    let g = rw (t .given .1) at (list-piece .ensures) in
+    omega (arith, g .0, if1 .taken)
 
 loop-again : tie.Need-loop-again Inv-loop μ-loop
 loop-again c =
-    let g = rw (c .before .t .given .1) at (c .before .before .before .before .before .list-piece .ensures) in
-    (c .before .before .before .before .before .before .before .before .before .before .loop .inv .0 ∙ sym (c .before .before .before .before .before .list-piece .kept .1 .0), c .before .before .before .before .before .before .before .before .before .before .loop .inv .1 ∙ sym (c .before .before .before .before .before .list-piece .kept .1 .1 .0), g .2, omega (arith, g .1, c .before .before .before .before .before .before .before .before .if1 .taken))
+    let loop = c .before .before .before .before .before .before .before .before .before .before .loop in
+    let if1 = c .before .before .before .before .before .before .before .before .if1 in
+    let list-piece = c .before .before .before .before .before .list-piece in
+    let t = c .before .t in
+    let g = rw (t .given .1) at (list-piece .ensures) in
+    (loop .inv .0 ∙ sym (list-piece .kept .1 .0), loop .inv .1 ∙ sym (list-piece .kept .1 .1 .0), g .2, omega (arith, g .1, if1 .taken))
 
 slice-aggregate-flush : tie.Need-slice-aggregate-flush Inv-loop μ-loop
 slice-aggregate-flush c = search needs

@@ -17,18 +17,24 @@ add-t8 : tie.Need-add-t8
 add-t8 c = search needs
 
 returns-2 : tie.Need-returns-2
-returns-2 c = let p = c .before .before .before .args .payload .now in lora p (get-byte 0 p (omega arith)) (c .if2 .taken)
+returns-2 c =
+    let start = c .before .before .before in
+    let p = start .args .payload .now in lora p (get-byte 0 p (omega arith)) (c .if2 .taken)
 
 returns-3 : tie.Need-returns-3
 returns-3 c =
-    let p = c .before .before .before .before .args .payload .now in other p (get-byte 0 p (omega arith)) (c .before .if2 .left) (c .if3 .taken)
+    let start = c .before .before .before .before in
+    let if2 = c .before .if2 in
+    let p = start .args .payload .now in other p (get-byte 0 p (omega arith)) (if2 .left) (c .if3 .taken)
 
 add-if4 : tie.Need-add-if4
 add-if4 c = search needs
 
 returns-4 : tie.Need-returns-4
 returns-4 c =
-    let p = c .before .before .before .before .before .args .payload .now in short p (get-byte 0 p (omega arith)) (c .before .if3 .left) (c .if4 .taken)
+    let start = c .before .before .before .before .before in
+    let if3 = c .before .if3 in
+    let p = start .args .payload .now in short p (get-byte 0 p (omega arith)) (if3 .left) (c .if4 .taken)
 
 add-word : tie.Need-add-word
 add-word c = search needs
@@ -38,9 +44,12 @@ shared-slice-read-word c = search needs
 
 returns-5 : tie.Need-returns-5
 returns-5 c =
-    let p = c .before .before .before .before .before .before .before .args .payload .now in
-    let h = c .before .before .if4 .left in
-    long p (get-byte 0 p (omega arith)) (c .before .before .before .if3 .left) h (word-byte p h) (c .if5 .taken)
+    let start = c .before .before .before .before .before .before .before in
+    let if3 = c .before .before .before .if3 in
+    let if4 = c .before .before .if4 in
+    let p = start .args .payload .now in
+    let h = if4 .left in
+    long p (get-byte 0 p (omega arith)) (if3 .left) h (word-byte p h) (c .if5 .taken)
 
 add-t9 : tie.Need-add-t9
 add-t9 c = search needs
@@ -53,9 +62,12 @@ add-t11 c = search needs
 
 returns-6 : tie.Need-returns-6
 returns-6 c =
-    let p = c .before .before .before .before .before .before .before .args .payload .now in
-    let h = c .before .before .if4 .left in
-    fsk p (get-byte 0 p (omega arith)) (c .before .before .before .if3 .left) h (word-byte p h) (c .if5 .left)
+    let start = c .before .before .before .before .before .before .before in
+    let if3 = c .before .before .before .if3 in
+    let if4 = c .before .before .if4 in
+    let p = start .args .payload .now in
+    let h = if4 .left in
+    fsk p (get-byte 0 p (omega arith)) (if3 .left) h (word-byte p h) (c .if5 .left)
 
 pub config-form-spec : {M : Type 1} → statement M
 config-form-spec =

@@ -26,26 +26,34 @@ part-params-end c = search needs
 
 lora-of-requires : tie.Need-lora-of-requires
 lora-of-requires c κs =
-    omega (arith, enough (c .before .before .before .before .args .payload .now) (c .before .before .before .before .pre), c .before .params .given)
+    let start = c .before .before .before .before in
+    let params = c .before .params in
+    omega (arith, enough (start .args .payload .now) (start .pre), params .given)
 
 returns : tie.Need-returns
 returns c =
-    let p = c .before .before .before .before .before .args .payload .now in
-    let n = enough p (c .before .before .before .before .before .pre) in
-    ap M.Lora (c .lora-of .ensures ∙ ap loraOf (part-to-end p 1)) ∙ of-lora p (get-byte 0 p (omega arith)) (c .before .if1 .taken)
+    let start = c .before .before .before .before .before in
+    let if1 = c .before .if1 in
+    let p = start .args .payload .now in
+    let n = enough p (start .pre) in
+    ap M.Lora (c .lora-of .ensures ∙ ap loraOf (part-to-end p 1)) ∙ of-lora p (get-byte 0 p (omega arith)) (if1 .taken)
 
 fsk-of-requires : tie.Need-fsk-of-requires
 fsk-of-requires c κs =
-    let p = c .before .before .before .before .args .payload .now in
-    let n = enough p (c .before .before .before .before .pre) in
-    let k = enough-fsk p (c .before .before .before .before .pre) (λ t. c .if1 .left (get-byte 0 p (omega arith) ∙ t)) in
-    omega (arith, c .before .params .given)
+    let start = c .before .before .before .before in
+    let params = c .before .params in
+    let p = start .args .payload .now in
+    let n = enough p (start .pre) in
+    let k = enough-fsk p (start .pre) (λ t. c .if1 .left (get-byte 0 p (omega arith) ∙ t)) in
+    omega (arith, params .given)
 
 returns-2 : tie.Need-returns-2
 returns-2 c =
-    let p = c .before .before .before .before .before .args .payload .now in
-    let n = enough p (c .before .before .before .before .before .pre) in
-    ap M.Fsk (c .fsk-of .ensures ∙ ap fskOf (part-to-end p 1)) ∙ of-fsk p (get-byte 0 p (omega arith)) (c .before .if1 .left)
+    let start = c .before .before .before .before .before in
+    let if1 = c .before .if1 in
+    let p = start .args .payload .now in
+    let n = enough p (start .pre) in
+    ap M.Fsk (c .fsk-of .ensures ∙ ap fskOf (part-to-end p 1)) ∙ of-fsk p (get-byte 0 p (omega arith)) (if1 .left)
 
 pub config-of-spec : {M : Type 1} → statement M
 config-of-spec =

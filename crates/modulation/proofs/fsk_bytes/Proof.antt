@@ -40,11 +40,14 @@ bytes-of-u64-requires-4 c κs = search needs
 returns : tie.Need-returns
 unfolding fskBytes lay le
 returns c =
-    let s = c .before .before .before .before .before .before .before .before in
-    let r : FskIn (s .args .m) = omega (arith, s .good) in
-    let freq = c .before .before .before .before .before .before .bytes-of-u64 .ensures in
-    let bitrate = c .before .before .before .before .bytes-of-u642 .ensures in
-    let deviation = c .before .before .bytes-of-u643 .ensures in
+    let start = c .before .before .before .before .before .before .before .before in
+    let bytes-of-u64 = c .before .before .before .before .before .before .bytes-of-u64 in
+    let bytes-of-u642 = c .before .before .before .before .bytes-of-u642 in
+    let bytes-of-u643 = c .before .before .bytes-of-u643 in
+    let r : FskIn (start .args .m) = omega (arith, start .good) in
+    let freq = bytes-of-u64 .ensures in
+    let bitrate = bytes-of-u642 .ensures in
+    let deviation = bytes-of-u643 .ensures in
     let preamble = c .bytes-of-u644 .ensures in
     λ i.
     getD (freq i) 0 0 ∷ getD (freq i) 1 0 ∷ getD (freq i) 2 0 ∷ getD (freq i) 3 0

@@ -28,13 +28,18 @@ shared-slice-read-t9 c = search needs
 returns : tie.Need-returns
 unfolding fskOf
 returns c =
-    let p = c .before .before .before .before .before .before .before .args .params .now in
+    let start = c .before .before .before .before .before .before .before in
+    let u32-at = c .before .before .before .before .before .u32-at in
+    let u32-at2 = c .before .before .before .before .u32-at2 in
+    let u32-at3 = c .before .before .before .u32-at3 in
+    let u16-at = c .before .before .u16-at in
+    let p = start .args .params .now in
     λ i. record {
-      «freq_hz» = c .before .before .before .before .before .u32-at .ensures i;
-      «bitrate_bps» = c .before .before .before .before .u32-at2 .ensures i;
-      «freq_dev_hz» = c .before .before .before .u32-at3 .ensures i;
+      «freq_hz» = u32-at .ensures i;
+      «bitrate_bps» = u32-at2 .ensures i;
+      «freq_dev_hz» = u32-at3 .ensures i;
       «rx_bw» = get-byte 12 p (omega arith) i;
-      «preamble_len» = c .before .before .u16-at .ensures i;
+      «preamble_len» = u16-at .ensures i;
       «sync_word_len» = get-byte 15 p (omega arith) i;
     }
 

@@ -8,7 +8,7 @@ use lib.ListN.{getD}
 use mir.Facts.{toZ-ofZ}
 use mir.Syntax.{w8}
 use Rattle.buffer.specs.Lay.{lay}
-use Rattle.scalar.specs.Scalars.{le, i8, unsigned}
+use Rattle.scalar.specs.Scalars.{le, sign8, unsigned}
 use Rattle.scalar.proofs.Laws.{unsigned-below}
 use Rattle.modulation.specs.Lora.{loraBytes}
 use Rattle.modulation.specs.Ranges.{LoraIn}
@@ -40,12 +40,16 @@ u8-of-requires c κs = search needs
 returns : tie.Need-returns
 unfolding loraBytes lay le
 returns c =
-    let s = c .before .before .before .before .before .before .before .before in
-    let r : LoraIn (s .args .m) = omega (arith, s .good) in
-    let freq = c .before .before .before .before .before .before .bytes-of-u64 .ensures in
-    let preamble = c .before .before .before .before .bytes-of-u642 .ensures in
-    let word = c .before .before .bytes-of-u643 .ensures in
-    let power = c .u8-of .ensures ∙ ap (unsigned i8) (toZ-ofZ {w = w8} record { sfits = r .«tx_power_dbm» }) ∙ sym (mod-eq-of-lt (unsigned-below i8 _ (r .«tx_power_dbm»))) in
+    let start = c .before .before .before .before .before .before .before .before in
+    let bytes-of-u64 = c .before .before .before .before .before .before .bytes-of-u64 in
+    let bytes-of-u642 = c .before .before .before .before .bytes-of-u642 in
+    let bytes-of-u643 = c .before .before .bytes-of-u643 in
+    let r : LoraIn (start .args .m) = omega (arith, start .good) in
+    let freq = bytes-of-u64 .ensures in
+    let preamble = bytes-of-u642 .ensures in
+    let word = bytes-of-u643 .ensures in
+    let e = mod-eq-of-lt (unsigned-below sign8 _ (r .«tx_power_dbm»)) in
+    let power = c .u8-of .ensures ∙ ap (unsigned sign8) (toZ-ofZ {w = w8} record { sfits = r .«tx_power_dbm» }) ∙ sym e in
     λ i.
     getD (freq i) 0 0 ∷ getD (freq i) 1 0 ∷ getD (freq i) 2 0 ∷ getD (freq i) 3 0
     ∷ sym (mod-eq-of-lt (r .sf)) i

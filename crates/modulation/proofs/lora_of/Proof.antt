@@ -4,7 +4,7 @@ use mathlib.Core.Path.{ap, _∙_}
 use native.Mathlib.Omega.{arith}
 use mir.Facts.{toZ-ofZ}
 use mir.Syntax.{w8}
-use Rattle.scalar.specs.Scalars.{i8, signed}
+use Rattle.scalar.specs.Scalars.{sign8, signed}
 use Rattle.scalar.proofs.Laws.{get-byte}
 use Rattle.modulation.specs.Lora.{loraOf}
 use borrow.Author.Needs.{needs}
@@ -47,15 +47,20 @@ shared-slice-read-t18 c = search needs
 returns : tie.Need-returns
 unfolding loraOf
 returns c =
-    let p = c .before .before .before .before .before .before .before .before .before .before .before .before .args .params .now in
+    let start = c .before .before .before .before .before .before .before .before .before .before .before .before in
+    let u32-at = c .before .before .before .before .before .before .before .before .before .before .u32-at in
+    let u16-at = c .before .before .before .before .before .before .before .before .before .u16-at in
+    let u16-at2 = c .before .before .before .before .before .before .before .before .u16-at2 in
+    let i8-of = c .before .before .before .before .before .before .i8-of in
+    let p = start .args .params .now in
     λ i. record {
-      «freq_hz» = c .before .before .before .before .before .before .before .before .before .before .u32-at .ensures i;
+      «freq_hz» = u32-at .ensures i;
       sf = get-byte 4 p (omega arith) i;
       bw = get-byte 5 p (omega arith) i;
       cr = get-byte 6 p (omega arith) i;
-      «preamble_len» = c .before .before .before .before .before .before .before .before .before .u16-at .ensures i;
-      «sync_word» = c .before .before .before .before .before .before .before .before .u16-at2 .ensures i;
-      «tx_power_dbm» = (toZ-ofZ {w = w8} record { sfits = c .before .before .before .before .before .before .i8-of .ok } ∙ c .before .before .before .before .before .before .i8-of .ensures ∙ ap (signed i8) (get-byte 11 p (omega arith))) i;
+      «preamble_len» = u16-at .ensures i;
+      «sync_word» = u16-at2 .ensures i;
+      «tx_power_dbm» = (toZ-ofZ {w = w8} record { sfits = i8-of .ok } ∙ i8-of .ensures ∙ ap (signed sign8) (get-byte 11 p (omega arith))) i;
       «header_mode» = get-byte 12 p (omega arith) i;
       «payload_crc» = get-byte 13 p (omega arith) i;
       «iq_invert» = get-byte 14 p (omega arith) i;

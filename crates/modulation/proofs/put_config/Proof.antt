@@ -17,7 +17,10 @@ slice-aggregate-put-parts c = search needs
 put-parts-requires : tie.Need-put-parts-requires
 unfolding configBytes
 put-parts-requires c κs =
-    rw (c .before .before .lora-bytes .ensures) (rw (c .before .before .before .before .m .given .1) at (c .before .before .before .before .before .before .before .before .pre))
+    let start = c .before .before .before .before .before .before .before .before in
+    let m = c .before .before .before .before .m in
+    let lora-bytes = c .before .before .lora-bytes in
+    rw (lora-bytes .ensures) (rw (m .given .1) at (start .pre))
 
 enum-known-m-2 : tie.Need-enum-known-m-2
 enum-known-m-2 c = search needs
@@ -31,7 +34,10 @@ slice-aggregate-put-parts-2 c = search needs
 put-parts-requires-2 : tie.Need-put-parts-requires-2
 unfolding configBytes
 put-parts-requires-2 c κs =
-    rw (c .before .before .fsk-bytes .ensures) (rw (c .before .before .before .before .m2 .given .1) at (c .before .before .before .before .before .before .before .before .pre))
+    let start = c .before .before .before .before .before .before .before .before in
+    let m2 = c .before .before .before .before .m2 in
+    let fsk-bytes = c .before .before .fsk-bytes in
+    rw (fsk-bytes .ensures) (rw (m2 .given .1) at (start .pre))
 
 same-length : tie.Need-same-length
 same-length c = search needs
@@ -39,7 +45,10 @@ same-length c = search needs
 returns : tie.Need-returns
 unfolding configBytes
 returns c =
-    rw (c .before .before .before .before .before .before .before .m .given .1, ← c .before .before .before .before .before .lora-bytes .ensures) (c .before .before .put-parts .ensures)
+    let m = c .before .before .before .before .before .before .before .m in
+    let lora-bytes = c .before .before .before .before .before .lora-bytes in
+    let put-parts = c .before .before .put-parts in
+    rw (m .given .1, ← lora-bytes .ensures) (put-parts .ensures)
 
 same-length-2 : tie.Need-same-length-2
 same-length-2 c = search needs
@@ -47,7 +56,10 @@ same-length-2 c = search needs
 returns-2 : tie.Need-returns-2
 unfolding configBytes
 returns-2 c =
-    rw (c .before .before .before .before .before .before .before .m2 .given .1, ← c .before .before .before .before .before .fsk-bytes .ensures) (c .before .before .put-parts2 .ensures)
+    let m2 = c .before .before .before .before .before .before .before .m2 in
+    let fsk-bytes = c .before .before .before .before .before .fsk-bytes in
+    let put-parts2 = c .before .before .put-parts2 in
+    rw (m2 .given .1, ← fsk-bytes .ensures) (put-parts2 .ensures)
 
 pub put-config-spec : {M : Type 1} → statement M
 put-config-spec =

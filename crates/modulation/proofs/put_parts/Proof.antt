@@ -22,40 +22,46 @@ slice-write-dst c = search needs
 
 copy-requires : tie.Need-copy-requires
 copy-requires c κs =
-    let s = c .before .before .before .before in
-    rw (length-set (s .args .dst .now) (s .args .at) (s .args .id)) (omega (arith, s .pre, length-append (s .args .params .now) (s .args .word .now)))
+    let start = c .before .before .before .before in
+    rw (length-set (start .args .dst .now) (start .args .at) (start .args .id))
+    (omega (arith, start .pre, length-append (start .args .params .now) (start .args .word .now)))
 
 copy-requires-2 : tie.Need-copy-requires-2
 copy-requires-2 c κs =
-    let s = c .before .before .before .before .before .before .before .before in
-    let k = c .before .before .before .copy .kept .1 .0 ∙ length-set (s .args .dst .now) (s .args .at) (s .args .id) in
-    omega (arith, s .pre, length-append (s .args .params .now) (s .args .word .now))
+    let start = c .before .before .before .before .before .before .before .before in
+    let copy = c .before .before .before .copy in
+    let k = copy .kept .1 .0 ∙ length-set (start .args .dst .now) (start .args .at) (start .args .id) in
+    omega (arith, start .pre, length-append (start .args .params .now) (start .args .word .now))
 
 add-result : tie.Need-add-result
 add-result c =
-    let s = c .before .before .before .before .before .before .before .before .before .before .before in
-    omega (arith, s .pre, s .good, length-append (s .args .params .now) (s .args .word .now))
+    let start = c .before .before .before .before .before .before .before .before .before .before .before in
+    omega (arith, start .pre, start .good, length-append (start .args .params .now) (start .args .word .now))
 
 same-length : tie.Need-same-length
 same-length c =
-    let s = c .before .before .before .before .before .before .before .before .before .before .before in
-    c .before .before .copy2 .kept .1 .0 ∙ c .before .before .before .before .before .before .copy .kept .1 .0 ∙ length-set (s .args .dst .now) (s .args .at) (s .args .id)
+    let start = c .before .before .before .before .before .before .before .before .before .before .before in
+    let copy = c .before .before .before .before .before .before .copy in
+    let copy2 = c .before .before .copy2 in
+    copy2 .kept .1 .0 ∙ copy .kept .1 .0 ∙ length-set (start .args .dst .now) (start .args .at) (start .args .id)
 
 returns : tie.Need-returns
 returns c =
-    let s = c .before .before .before .before .before .before .before .before .before .before .before in
-    let d = s .args .dst .now in
-    let at = s .args .at in
-    let id = s .args .id in
-    let a = s .args .params .now in
-    let b = s .args .word .now in
+    let start = c .before .before .before .before .before .before .before .before .before .before .before in
+    let copy = c .before .before .before .before .before .before .copy in
+    let copy2 = c .before .before .copy2 in
+    let d = start .args .dst .now in
+    let at = start .args .at in
+    let id = start .args .id in
+    let a = start .args .params .now in
+    let b = start .args .word .now in
     let n = length-append a b in
     let k = length-set d at id in (
       omega arith,
-      c .before .before .copy2 .ensures
-          ∙ ap (lay (at + 1 + length a) b) (c .before .before .before .before .before .before .copy .ensures)
-          ∙ lay-lay (at + 1) a (set d at id) (omega (arith, s .pre)) b
-          ∙ lay-next at id (a ++ b) d (omega (arith, s .pre)),
+      copy2 .ensures
+          ∙ ap (lay (at + 1 + length a) b) (copy .ensures)
+          ∙ lay-lay (at + 1) a (set d at id) (omega (arith, start .pre)) b
+          ∙ lay-next at id (a ++ b) d (omega (arith, start .pre)),
     )
 
 pub put-parts-spec : {M : Type 1} → statement M

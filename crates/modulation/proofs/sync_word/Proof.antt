@@ -15,7 +15,10 @@ slice-aggregate-result : tie.Need-slice-aggregate-result
 slice-aggregate-result c = search needs
 
 returns : tie.Need-returns
-returns c = word-short (c .before .before .before .args .payload .now) (c .before .if1 .taken)
+returns c =
+    let start = c .before .before .before in
+    let if1 = c .before .if1 in
+    word-short (start .args .payload .now) (if1 .taken)
 
 shared-slice-read-if2 : tie.Need-shared-slice-read-if2
 shared-slice-read-if2 c = search needs
@@ -25,9 +28,12 @@ slice-aggregate-result-2 c = search needs
 
 returns-2 : tie.Need-returns-2
 returns-2 c =
-    let p = c .before .before .before .before .before .args .payload .now in
-    let h = c .before .before .before .if1 .left in
-    word-none p (get-byte 0 p (omega arith)) (c .before .if2 .taken)
+    let start = c .before .before .before .before .before in
+    let if1 = c .before .before .before .if1 in
+    let if2 = c .before .if2 in
+    let p = start .args .payload .now in
+    let h = if1 .left in
+    word-none p (get-byte 0 p (omega arith)) (if2 .taken)
 
 add-len : tie.Need-add-len
 add-len c = search needs
@@ -46,9 +52,12 @@ part-requires c κs = search needs
 
 returns-3 : tie.Need-returns-3
 returns-3 c =
-    let p = c .before .before .before .before .before .before .args .payload .now in
-    let h = c .before .before .before .before .if1 .left in
-    c .part .ensures ∙ word-some p (get-byte 0 p (omega arith)) (c .before .before .if2 .left) (word-byte p h)
+    let start = c .before .before .before .before .before .before in
+    let if1 = c .before .before .before .before .if1 in
+    let if2 = c .before .before .if2 in
+    let p = start .args .payload .now in
+    let h = if1 .left in
+    c .part .ensures ∙ word-some p (get-byte 0 p (omega arith)) (if2 .left) (word-byte p h)
 
 pub sync-word-spec : {M : Type 1} → statement M
 sync-word-spec =

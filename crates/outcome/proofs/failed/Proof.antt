@@ -18,8 +18,8 @@ add-u16-at c = search needs
 u16-at-requires : tie.Need-u16-at-requires
 u16-at-requires c κs = search needs
 
-note-requires : tie.Need-note-requires
-note-requires c κs = search needs
+write-fault-requires : tie.Need-write-fault-requires
+write-fault-requires c κs = search needs
 
 done-requires : tie.Need-done-requires
 done-requires c κs = search needs
@@ -29,7 +29,10 @@ same-length c = search needs
 
 returns : tie.Need-returns
 returns c =
-    spoken _ _ (from-start (rw (c .before .before .before .before .before .before .before .u16-at .ensures) at (c .before .before .before .note .ensures))) (rw (c .before .before .before .before .before .before .before .before .before .with-radio .ensures) at (c .done .ensures))
+    let with-radio = c .before .before .before .before .before .before .before .before .before .with-radio in
+    let u16-at = c .before .before .before .before .before .before .before .u16-at in
+    let write-fault = c .before .before .before .write-fault in
+    spoken _ _ (from-start (rw (u16-at .ensures) at (write-fault .ensures))) (rw (with-radio .ensures) at (c .done .ensures))
 
 pub failed-spec : {M : Type 1} → statement M
 failed-spec =
@@ -39,7 +42,7 @@ failed-spec =
     mul-u16-at
     add-u16-at
     u16-at-requires
-    note-requires
+    write-fault-requires
     done-requires
     same-length
     returns)

@@ -2,13 +2,13 @@
 -- Assumes nothing.
 use mathlib.Core.Path.{ap, _∙_}
 use native.Mathlib.Omega.{arith}
-use Rattle.numbers.specs.Numbers.{ROOM}
+use Rattle.status.specs.Numbers.{ROOM}
 use Rattle.control.specs.declared.Radio.the-variants.{Listening, OnAir, Configuring}
-use Rattle.control.specs.Control.{says, taken, refused}
+use Rattle.control.specs.Control.{writesFirst, taken, refused}
 use Rattle.control.proofs.Laws.{answers, refusal, takes, then, entered, closed}
 use Rattle.queue.specs.Queue.{afterTx}
-use Rattle.outcome.specs.Outcomes.{faultOut, onFault, noted}
-use Rattle.outcome.proofs.Laws.{fault-other, noted-few, from-start}
+use Rattle.outcome.specs.Outcomes.{faultOut, onFault, faultFrames}
+use Rattle.outcome.proofs.Laws.{fault-other, fault-bounded, from-start}
 use borrow.Author.Needs.{needs}
 use Rattle.outcome.proofs.fault.Statement.{statement}
 use Rattle.outcome.proofs.fault.Tie as tie
@@ -19,7 +19,9 @@ refuse-requires c κs = search needs
 returns : tie.Need-returns
 unfolding faultOut
 returns c =
-    answers (refused ROOM (c .before .before .before .args .d)) (closed _ _ _ (c .before .if1 .taken)) (refusal _ _ _ (c .refuse .ensures))
+    let start = c .before .before .before in
+    let if1 = c .before .if1 in
+    answers (refused ROOM (start .args .d)) (closed _ _ _ (if1 .taken)) (refusal _ _ _ (c .refuse .ensures))
 
 enum-known-radio : tie.Need-enum-known-radio
 enum-known-radio c = search needs
@@ -37,7 +39,11 @@ returns-2 : tie.Need-returns-2
 unfolding faultOut
 returns-2 c =
     let a = c .before .before .before .before .before .before .before .before .before .before .before .args in
-    answers (taken (onFault (Listening (c .before .before .before .before .before .before .radio .given .0 .0)) (a .commands .now) (a .d))) (entered _ _ _ (c .before .before .before .before .before .before .before .before .before .if1 .left) ∙ rw (c .before .before .before .before .before .before .radio .given .1)) (takes _ (c .before .before .before .lost .ensures) (c .take .ensures))
+    let if1 = c .before .before .before .before .before .before .before .before .before .if1 in
+    let radio = c .before .before .before .before .before .before .radio in
+    let lost = c .before .before .before .lost in
+    answers (taken (onFault (Listening (radio .given .0 .0)) (a .commands .now) (a .d)))
+    (entered _ _ _ (if1 .left) ∙ rw (radio .given .1)) (takes _ (lost .ensures) (c .take .ensures))
 
 enum-known-radio-2 : tie.Need-enum-known-radio-2
 enum-known-radio-2 c = search needs
@@ -55,7 +61,11 @@ returns-3 : tie.Need-returns-3
 unfolding faultOut
 returns-3 c =
     let a = c .before .before .before .before .before .before .before .before .before .before .before .args in
-    answers (taken (onFault (OnAir (c .before .before .before .before .before .before .radio2 .given .0 .0)) (a .commands .now) (a .d))) (entered _ _ _ (c .before .before .before .before .before .before .before .before .before .if1 .left) ∙ rw (c .before .before .before .before .before .before .radio2 .given .1)) (takes _ (c .before .before .before .lost2 .ensures) (c .take2 .ensures))
+    let if1 = c .before .before .before .before .before .before .before .before .before .if1 in
+    let radio2 = c .before .before .before .before .before .before .radio2 in
+    let lost2 = c .before .before .before .lost2 in
+    answers (taken (onFault (OnAir (radio2 .given .0 .0)) (a .commands .now) (a .d)))
+    (entered _ _ _ (if1 .left) ∙ rw (radio2 .given .1)) (takes _ (lost2 .ensures) (c .take2 .ensures))
 
 enum-told : tie.Need-enum-told
 enum-told c = search needs
@@ -73,15 +83,22 @@ returns-4 : tie.Need-returns-4
 unfolding faultOut
 returns-4 c =
     let a = c .before .before .before .before .before .before .before .before .before .before .args in
-    answers (taken (onFault Configuring (a .commands .now) (a .d))) (entered _ _ _ (c .before .before .before .before .before .before .before .before .if1 .left) ∙ rw (c .before .before .before .before .before .enum-told .given .1)) (takes _ (c .before .before .before .failed .ensures) (c .take3 .ensures))
+    let if1 = c .before .before .before .before .before .before .before .before .if1 in
+    let enum-told = c .before .before .before .before .before .enum-told in
+    let failed = c .before .before .before .failed in
+    answers (taken (onFault Configuring (a .commands .now) (a .d))) (entered _ _ _ (if1 .left) ∙ rw (enum-told .given .1))
+    (takes _ (failed .ensures) (c .take3 .ensures))
 
-note-requires : tie.Need-note-requires
-note-requires c κs = search needs
+write-fault-requires : tie.Need-write-fault-requires
+write-fault-requires c κs = search needs
 
 after-tx-requires : tie.Need-after-tx-requires
 after-tx-requires c κs =
-    let n = noted-few (c .before .before .before .before .before .before .before .before .before .before .args .d .link .session) 0 in
-    omega (arith, c .before .before .before .note .ensures .0, c .before .before .before .note .kept, c .before .before .before .before .before .before .before .before .if1 .left)
+    let start = c .before .before .before .before .before .before .before .before .before .before in
+    let if1 = c .before .before .before .before .before .before .before .before .if1 in
+    let write-fault = c .before .before .before .write-fault in
+    let n = fault-bounded (start .args .d .link .session) 0 in
+    omega (arith, write-fault .ensures .0, write-fault .kept, if1 .left)
 
 take-requires-4 : tie.Need-take-requires-4
 take-requires-4 c κs = search needs
@@ -93,8 +110,13 @@ returns-5 : tie.Need-returns-5
 unfolding faultOut
 returns-5 c =
     let a = c .before .before .before .before .before .before .before .before .before .before .before .before .before .before .args in
-    answers (taken (says (noted (a .d .link .session) 0) (afterTx (a .commands .now) (a .d)))) (entered _ _ _ (c .before .before .before .before .before .before .before .before .before .before .before .before .if1 .left) ∙ ap taken (fault-other (a .d .air .radio) (a .commands .now) (a .d) (c .before .before .before .before .before .before .before .before .before .before .match .keys4)))
-    (takes _ (then (from-start (c .before .before .before .before .before .before .before .note .ensures)) (c .before .before .before .after-tx .ensures)) (c .take4 .ensures))
+    let if1 = c .before .before .before .before .before .before .before .before .before .before .before .before .if1 in
+    let match = c .before .before .before .before .before .before .before .before .before .before .match in
+    let write-fault = c .before .before .before .before .before .before .before .write-fault in
+    let after-tx = c .before .before .before .after-tx in
+    answers (taken (writesFirst (faultFrames (a .d .link .session) 0) (afterTx (a .commands .now) (a .d))))
+    (entered _ _ _ (if1 .left) ∙ ap taken (fault-other (a .d .air .radio) (a .commands .now) (a .d) (match .keys4)))
+    (takes _ (then (from-start (write-fault .ensures)) (after-tx .ensures)) (c .take4 .ensures))
 
 pub fault-spec : {M : Type 1} → statement M
 fault-spec =
@@ -117,7 +139,7 @@ fault-spec =
     take-requires-3
     same-length-3
     returns-4
-    note-requires
+    write-fault-requires
     after-tx-requires
     take-requires-4
     same-length-4

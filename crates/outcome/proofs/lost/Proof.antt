@@ -2,34 +2,42 @@
 -- Assumes nothing.
 use native.Mathlib.Omega.{arith}
 use Rattle.kind.specs.Kinds.{CANCELLED}
-use Rattle.wire.proofs.Laws.{sent-one, length-done}
+use Rattle.emit.proofs.Laws.{sent-one, length-done}
 use Rattle.control.proofs.Laws.{then}
-use Rattle.outcome.proofs.Laws.{noted-few, from-start}
+use Rattle.outcome.proofs.Laws.{fault-bounded, from-start}
 use borrow.Author.Needs.{needs}
 use Rattle.outcome.proofs.lost.Statement.{statement}
 use Rattle.outcome.proofs.lost.Tie as tie
 
-note-requires : tie.Need-note-requires
-note-requires c κs = search needs
+write-fault-requires : tie.Need-write-fault-requires
+write-fault-requires c κs = search needs
 
-say-done-requires : tie.Need-say-done-requires
-say-done-requires c κs =
-    let n = noted-few (c .before .before .before .before .before .before .before .args .d .link .session) 0 in
-    omega (arith, c .before .before .before .note .ensures .0, c .before .before .before .note .kept, c .before .before .before .before .before .before .before .pre)
+write-tx-done-requires : tie.Need-write-tx-done-requires
+write-tx-done-requires c κs =
+    let start = c .before .before .before .before .before .before .before in
+    let write-fault = c .before .before .before .write-fault in
+    let n = fault-bounded (start .args .d .link .session) 0 in
+    omega (arith, write-fault .ensures .0, write-fault .kept, start .pre)
 
 after-tx-requires : tie.Need-after-tx-requires
 after-tx-requires c κs =
-    let n = noted-few (c .before .before .before .before .before .before .before .before .before .before .before .args .d .link .session) 0 in
-    let k = length-done CANCELLED 0 (c .before .before .before .before .before .before .before .before .before .before .before .args .tag) in
-    omega (arith, c .before .before .before .before .before .before .before .note .ensures .0, c .before .before .before .before .before .before .before .note .kept, c .before .before .before .say-done .ensures .ends, c .before .before .before .say-done .kept, c .before .before .before .before .before .before .before .before .before .before .before .pre)
+    let start = c .before .before .before .before .before .before .before .before .before .before .before in
+    let write-fault = c .before .before .before .before .before .before .before .write-fault in
+    let write-tx-done = c .before .before .before .write-tx-done in
+    let n = fault-bounded (start .args .d .link .session) 0 in
+    let k = length-done CANCELLED 0 (start .args .tag) in
+    omega (arith, write-fault .ensures .0, write-fault .kept, write-tx-done .ensures .ends, write-tx-done .kept, start .pre)
 
 same-length : tie.Need-same-length
 same-length c = search needs
 
 returns : tie.Need-returns
 returns c =
-    then (from-start (c .before .before .before .before .before .before .before .before .before .before .note .ensures)) (then (sent-one (c .before .before .before .before .before .before .say-done .ensures)) (c .before .before .after-tx .ensures))
+    let write-fault = c .before .before .before .before .before .before .before .before .before .before .write-fault in
+    let write-tx-done = c .before .before .before .before .before .before .write-tx-done in
+    let after-tx = c .before .before .after-tx in
+    then (from-start (write-fault .ensures)) (then (sent-one (write-tx-done .ensures)) (after-tx .ensures))
 
 pub lost-spec : {M : Type 1} → statement M
 lost-spec =
-    tie.close (tie.spec note-requires say-done-requires after-tx-requires same-length returns)
+    tie.close (tie.spec write-fault-requires write-tx-done-requires after-tx-requires same-length returns)

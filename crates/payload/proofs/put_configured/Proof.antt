@@ -22,37 +22,38 @@ configured-bytes m word h k = rw (mod-eq-of-lt h, mod-eq-of-lt k)
 
 slice-write-dst : tie.Need-slice-write-dst
 slice-write-dst c =
-    let s = c .before .before in
-    let e = configured-bytes (s .args .m) (s .args .word .now) (omega (arith, s .good)) (omega (arith, s .good)) in
-    omega (arith, rw e at (s .pre))
+    let start = c .before .before in
+    let e = configured-bytes (start .args .m) (start .args .word .now) (omega (arith, start .good)) (omega (arith, start .good)) in
+    omega (arith, rw e at (start .pre))
 
 slice-write-dst-2 : tie.Need-slice-write-dst-2
 slice-write-dst-2 c =
-    let s = c .before .before in
-    let e = configured-bytes (s .args .m) (s .args .word .now) (omega (arith, s .good)) (omega (arith, s .good)) in
-    rw length-set (omega (arith, rw e at (s .pre)))
+    let start = c .before .before in
+    let e = configured-bytes (start .args .m) (start .args .word .now) (omega (arith, start .good)) (omega (arith, start .good)) in
+    rw length-set (omega (arith, rw e at (start .pre)))
 
 put-config-requires : tie.Need-put-config-requires
 put-config-requires c κs =
-    let s = c .before .before .before in
-    let e = configured-bytes (s .args .m) (s .args .word .now) (omega (arith, s .good)) (omega (arith, s .good)) in
-    rw (length-set, length-set) (omega (arith, rw e at (s .pre)))
+    let start = c .before .before .before in
+    let e = configured-bytes (start .args .m) (start .args .word .now) (omega (arith, start .good)) (omega (arith, start .good)) in
+    rw (length-set, length-set) (omega (arith, rw e at (start .pre)))
 
 same-length : tie.Need-same-length
 same-length c = c .before .before .put-config .kept .1 .1 .0 ∙ simp length-set
 
 returns : tie.Need-returns
 returns c =
-    let s = c .before .before .before .before .before .before in
-    let m = s .args .m in
-    let d = s .args .dst .now in
-    let b = configBytes (m .current) (s .args .word .now) in
-    let e = configured-bytes m (s .args .word .now) (omega (arith, s .good)) (omega (arith, s .good)) in
-    let h = rw e at (s .pre) in
+    let start = c .before .before .before .before .before .before in
+    let put-config = c .before .before .put-config in
+    let m = start .args .m in
+    let d = start .args .dst .now in
+    let b = configBytes (m .current) (start .args .word .now) in
+    let e = configured-bytes m (start .args .word .now) (omega (arith, start .good)) (omega (arith, start .good)) in
+    let h = rw e at (start .pre) in
     let k = length-set d 0 (m .result) in
     rw e (
-      omega (arith, c .before .before .put-config .ensures .0),
-      c .before .before .put-config .ensures .1
+      omega (arith, put-config .ensures .0),
+      put-config .ensures .1
           ∙ lay-next 1 (m .owner) b (set d 0 (m .result)) (omega arith)
           ∙ lay-next 0 (m .result) (m .owner ∷ b) d (omega arith),
     )

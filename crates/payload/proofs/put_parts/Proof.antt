@@ -12,12 +12,15 @@ use Rattle.payload.proofs.put_parts.Tie as tie
 
 copy-requires : tie.Need-copy-requires
 copy-requires c κs =
-    omega (arith, c .before .before .before .before .pre, length-append (c .before .before .before .before .args .fields .now) (c .before .before .before .before .args .bytes .now))
+    let start = c .before .before .before .before in
+    omega (arith, start .pre, length-append (start .args .fields .now) (start .args .bytes .now))
 
 copy-requires-2 : tie.Need-copy-requires-2
 copy-requires-2 c κs =
-    let k = c .before .before .before .copy .kept .1 .0 in
-    omega (arith, c .before .before .before .before .before .before .before .before .pre, length-append (c .before .before .before .before .before .before .before .before .args .fields .now) (c .before .before .before .before .before .before .before .before .args .bytes .now))
+    let start = c .before .before .before .before .before .before .before .before in
+    let copy = c .before .before .before .copy in
+    let k = copy .kept .1 .0 in
+    omega (arith, start .pre, length-append (start .args .fields .now) (start .args .bytes .now))
 
 add-result : tie.Need-add-result
 add-result c = search needs
@@ -27,12 +30,15 @@ same-length c = search needs
 
 returns : tie.Need-returns
 returns c =
-    let a = c .before .before .before .before .before .before .before .before .before .before .before .args .fields .now in
-    let b = c .before .before .before .before .before .before .before .before .before .before .before .args .bytes .now in
-    let d = c .before .before .before .before .before .before .before .before .before .before .before .args .dst .now in
+    let start = c .before .before .before .before .before .before .before .before .before .before .before in
+    let copy = c .before .before .before .before .before .before .copy in
+    let copy2 = c .before .before .copy2 in
+    let a = start .args .fields .now in
+    let b = start .args .bytes .now in
+    let d = start .args .dst .now in
     let n = length-append a b in (
       omega arith,
-      c .before .before .copy2 .ensures ∙ ap (lay (length a) b) (c .before .before .before .before .before .before .copy .ensures) ∙ rw zero-add at (lay-lay 0 a d (omega (arith, c .before .before .before .before .before .before .before .before .before .before .before .pre)) b),
+      copy2 .ensures ∙ ap (lay (length a) b) (copy .ensures) ∙ rw zero-add at (lay-lay 0 a d (omega (arith, start .pre)) b),
     )
 
 pub put-parts-spec : {M : Type 1} → statement M

@@ -17,8 +17,9 @@ bytes-of-u64-requires c κs = search needs
 returns : tie.Need-returns
 unfolding txDoneBytes lay le
 returns c =
+    let start = c .before in
     let time = c .bytes-of-u64 .ensures in
-    λ i. sym (mod-eq-of-lt (c .before .fits .result .fits)) i ∷ getD (time i) 0 0 ∷ getD (time i) 1 0 ∷ getD (time i) 2 0 ∷ getD (time i) 3 0 ∷ []
+    λ i. sym (mod-eq-of-lt (start .fits .result .fits)) i ∷ getD (time i) 0 0 ∷ getD (time i) 1 0 ∷ getD (time i) 2 0 ∷ getD (time i) 3 0 ∷ []
 
 pub tx-done-bytes-spec : {M : Type 1} → statement M
 tx-done-bytes-spec = tie.close (tie.spec bytes-of-u64-requires returns)

@@ -1,7 +1,7 @@
 -- The code's tests are the definition's: a waiting SET_CONFIG, then a waiting TX, then none.
 -- Assumes nothing.
 use mathlib.Core.Path.{refl}
-use Rattle.control.proofs.Laws.{gives, silent, quiet}
+use Rattle.control.proofs.Laws.{gives, writes-nothing, quiet}
 use Rattle.queue.specs.Queue.{start}
 use Rattle.queue.proofs.Laws.{after-setting, after-waiting, after-none}
 use borrow.Author.Needs.{needs}
@@ -16,7 +16,9 @@ same-length c = search needs
 
 returns : tie.Need-returns
 returns c =
-    gives _ (after-setting _ _ (c .before .before .before .before .if1 .taken)) (c .before .before .configure .ensures)
+    let if1 = c .before .before .before .before .if1 in
+    let configure = c .before .before .configure in
+    gives _ (after-setting _ _ (if1 .taken)) (configure .ensures)
 
 cast-slot : tie.Need-cast-slot
 cast-slot c = search needs
@@ -30,7 +32,9 @@ start-requires c κs = search needs
 returns-2 : tie.Need-returns-2
 unfolding start
 returns-2 c =
-    gives _ (after-waiting _ _ (c .before .before .if1 .left) (c .before .if2 .taken)) (silent _ _ _ refl (c .start .ensures))
+    let if1 = c .before .before .if1 in
+    let if2 = c .before .if2 in
+    gives _ (after-waiting _ _ (if1 .left) (if2 .taken)) (writes-nothing _ _ _ refl (c .start .ensures))
 
 with-air-requires : tie.Need-with-air-requires
 with-air-requires c κs = search needs
@@ -43,7 +47,11 @@ done-requires c κs = search needs
 
 returns-3 : tie.Need-returns-3
 returns-3 c =
-    gives _ (after-none _ _ (c .before .before .before .before .if1 .left) (c .before .before .before .if2 .left)) (quiet _ _ _ _ (rw (c .before .before .with-air .ensures, c .before .idle .ensures) at (c .done .ensures)))
+    let if1 = c .before .before .before .before .if1 in
+    let if2 = c .before .before .before .if2 in
+    let with-air = c .before .before .with-air in
+    let idle = c .before .idle in
+    gives _ (after-none _ _ (if1 .left) (if2 .left)) (quiet _ _ _ _ (rw (with-air .ensures, idle .ensures) at (c .done .ensures)))
 
 pub after-tx-spec : {M : Type 1} → statement M
 after-tx-spec =

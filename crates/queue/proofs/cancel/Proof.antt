@@ -28,25 +28,34 @@ u16-at-requires : tie.Need-u16-at-requires Inv-loop μ-loop
 u16-at-requires c κs =
     search needs
 
-say-done-requires : tie.Need-say-done-requires Inv-loop μ-loop
-say-done-requires c κs =
-    omega (arith, c .before .before .before .before .loop .inv .fits, c .before .before .before .loop-test .taken)
+write-tx-done-requires : tie.Need-write-tx-done-requires Inv-loop μ-loop
+write-tx-done-requires c κs =
+    let loop = c .before .before .before .before .loop in
+    let loop-test = c .before .before .before .loop-test in
+    omega (arith, loop .inv .fits, loop-test .taken)
 
 add-k : tie.Need-add-k Inv-loop μ-loop
 add-k c =
-    omega (arith, c .before .before .before .before .before .before .before .loop .inv .below)
+    let loop = c .before .before .before .before .before .before .before .loop in
+    omega (arith, loop .inv .below)
 
 sub-left : tie.Need-sub-left Inv-loop μ-loop
 sub-left c =
-    omega (arith, c .before .before .before .before .before .before .loop-test .taken)
+    let loop-test = c .before .before .before .before .before .before .loop-test in
+    omega (arith, loop-test .taken)
 
 loop-less : tie.Need-loop-less Inv-loop μ-loop
 loop-less c =
-    omega (arith, c .before .before .before .before .before .before .loop-test .taken)
+    let loop-test = c .before .before .before .before .before .before .loop-test in
+    omega (arith, loop-test .taken)
 
 loop-again : tie.Need-loop-again Inv-loop μ-loop
 loop-again c =
-    turn-next (c .before .before .before .before .before .before .before .loop .inv) (c .before .before .before .before .before .before .loop-test .taken) (c .before .before .before .before .u16-at .ensures) (c .before .before .say-done .ensures) (c .before .before .say-done .kept .1 .1 .1 .0)
+    let loop = c .before .before .before .before .before .before .before .loop in
+    let loop-test = c .before .before .before .before .before .before .loop-test in
+    let u16-at = c .before .before .before .before .u16-at in
+    let write-tx-done = c .before .before .write-tx-done in
+    turn-next (loop .inv) (loop-test .taken) (u16-at .ensures) (write-tx-done .ensures) (write-tx-done .kept .1 .1 .1 .0)
 
 same-length : tie.Need-same-length Inv-loop μ-loop
 same-length c =
@@ -66,7 +75,7 @@ cancel-spec =
     mul-u16-at
     add-u16-at
     u16-at-requires
-    say-done-requires
+    write-tx-done-requires
     add-k
     sub-left
     loop-less

@@ -9,8 +9,8 @@ use Rattle.queue.proofs.configure.Tie as tie
 cast-slot : tie.Need-cast-slot
 cast-slot c = search needs
 
-few-requires : tie.Need-few-requires
-few-requires c κs = search needs
+bounded-requires : tie.Need-bounded-requires
+bounded-requires c κs = search needs
 
 cancel-requires : tie.Need-cancel-requires
 cancel-requires c κs = search needs
@@ -42,16 +42,21 @@ same-length c = search needs
 returns : tie.Need-returns
 unfolding begin
 returns c =
-    let e = c .before .before .before .before .before .before .before .before .before .few .ensures in
-    spoken _ _ (record { ends = rw e at (c .before .before .before .before .before .before .before .cancel .ensures .0); lays = rw e at (c .before .before .before .before .before .before .before .cancel .ensures .1) })
-    (rw (c .before .before .before .before .with-air .ensures, c .before .before .len-at .ensures .0, c .before .ldro .ensures) at (c .done .ensures))
+    let bounded = c .before .before .before .before .before .before .before .before .before .bounded in
+    let cancel = c .before .before .before .before .before .before .before .cancel in
+    let with-air = c .before .before .before .before .with-air in
+    let len-at = c .before .before .len-at in
+    let ldro = c .before .ldro in
+    let e = bounded .ensures in
+    spoken _ _ (record { ends = rw e at (cancel .ensures .0); lays = rw e at (cancel .ensures .1) })
+    (rw (with-air .ensures, len-at .ensures .0, ldro .ensures) at (c .done .ensures))
 
 pub configure-spec : {M : Type 1} → statement M
 configure-spec =
     tie.close
     (tie.spec
     cast-slot
-    few-requires
+    bounded-requires
     cancel-requires
     with-air-requires
     mul-base

@@ -33,7 +33,8 @@ slow-requires c κs = search needs
 returns : tie.Need-returns
 unfolding ldroAt
 returns c =
-    simp (eq-eqb _ _ (c .before .before .before .if1 .taken)) (c .slow .ensures)
+    let if1 = c .before .before .before .if1 in
+    simp (eq-eqb _ _ (if1 .taken)) (c .slow .ensures)
 
 returns-2 : tie.Need-returns-2
 unfolding ldroAt

@@ -48,7 +48,12 @@ done-requires c κs = search needs
 returns : tie.Need-returns
 unfolding start
 returns c =
-    plain _ _ _ (rw (c .before .with-air .ensures, c .before .before .begun .ensures, c .before .before .before .listens .ensures, c .before .before .before .before .before .u16-at .ensures, c .before .before .before .before .before .before .before .len-at .ensures .0) at (c .done .ensures))
+    let len-at = c .before .before .before .before .before .before .before .len-at in
+    let u16-at = c .before .before .before .before .before .u16-at in
+    let listens = c .before .before .before .listens in
+    let begun = c .before .before .begun in
+    let with-air = c .before .with-air in
+    plain _ _ _ (rw (with-air .ensures, begun .ensures, listens .ensures, u16-at .ensures, len-at .ensures .0) at (c .done .ensures))
 
 pub start-spec : {M : Type 1} → statement M
 start-spec =

@@ -57,8 +57,10 @@ returns-2 : tie.Need-returns-2
 returns-2 c =
     let s = c .before .before .before .before .before .before .before .before .before .before .before .args in
     let w = c .before .before .before .before .before .before .before .receive in
-    let e = received (s .kinds) (s .run .now) (s .dst .now) (w .ensures .0) (c .before .before .before .r .given .1) in
-    rw e (refl, (c .before .refusal-number .ensures, (refl, refl)))
+    let r = c .before .before .before .r in
+    let refusal-number = c .before .refusal-number in
+    let e = received (s .kinds) (s .run .now) (s .dst .now) (w .ensures .0) (r .given .1) in
+    rw e (refl, (refusal-number .ensures, (refl, refl)))
 
 pub read-spec : {M : Type 1} → statement M
 read-spec =

@@ -5,9 +5,9 @@ use native.Mathlib.Nat.{le-refl}
 use native.Mathlib.Omega.{arith}
 use lib.ListN.{length, length-take}
 use lib.Seq.{length-take-le}
-use Rattle.frame.specs.Reading.{openedSays}
+use Rattle.frame.specs.Reading.{openedResult}
 use Rattle.frame.proofs.Laws.{opens-facts, unpack-body, payload-seen}
-use Rattle.verdict.proofs.Laws.{judged-same}
+use Rattle.wellformed.proofs.Laws.{judged-same}
 use Rattle.reader.proofs.Steps.{keeps, refuses, takes}
 use borrow.Author.Needs.{needs}
 use Rattle.reader.proofs.receive.Statement.{statement}
@@ -28,8 +28,9 @@ enum-told c = search needs
 returns : tie.Need-returns
 returns c =
     let s = c .before .before .before .before .before .before .before .args in
-    let k = keeps (s .kinds) (s .run .now) (s .dst .now) (sym (c .before .before .before .unpack .ensures .0) ∙ c .enum-told .given .1) in
-    (ap openedSays (c .enum-told .given .1 ∙ sym (k .0)), sym (k .1))
+    let unpack = c .before .before .before .unpack in
+    let k = keeps (s .kinds) (s .run .now) (s .dst .now) (sym (unpack .ensures .0) ∙ c .enum-told .given .1) in
+    (ap openedResult (c .enum-told .given .1 ∙ sym (k .0)), sym (k .1))
 
 add-fits-read : tie.Need-add-fits-read
 add-fits-read c =
@@ -56,8 +57,8 @@ part-fits-read-end c =
 fits-read-requires : tie.Need-fits-read-requires
 fits-read-requires c κs = search needs
 
-judge-requires : tie.Need-judge-requires
-judge-requires c κs = search needs
+check-requires : tie.Need-check-requires
+check-requires c κs = search needs
 
 enum-known-r : tie.Need-enum-known-r
 enum-known-r c = search needs
@@ -66,14 +67,18 @@ returns-2 : tie.Need-returns-2
 returns-2 c =
     let s = c .before .before .before .before .before .before .before .before .before .before .before .before .before .before .before .args in
     let w = c .before .before .before .before .before .before .before .before .before .before .before .unpack in
-    let e = sym (w .ensures .0) ∙ c .before .before .before .before .before .before .before .before .opened .given .1 in
+    let opened = c .before .before .before .before .before .before .before .before .opened in
+    let fits-read = c .before .before .before .before .fits-read in
+    let check = c .before .before .before .check in
+    let r = c .before .r in
+    let e = sym (w .ensures .0) ∙ opened .given .1 in
     let o = opens-facts (s .run .now) (length (s .dst .now)) e in
     let p = payload-seen (s .run .now) (length (s .dst .now)) (w .last .1 .1 .0) e (w .ensures .1) in
-    let f = c .before .before .before .before .fits-read .ensures in
-    let q = rw (f, p) at (c .before .before .before .judge .ensures) in
-    let j = sym (judged-same _ _ q) ∙ c .before .r .given .1 in
+    let f = fits-read .ensures in
+    let q = rw (f, p) at (check .ensures) in
+    let j = sym (judged-same _ _ q) ∙ r .given .1 in
     let k = refuses (s .kinds) (s .run .now) (s .dst .now) e j in
-    (ap openedSays (sym (k .0)), sym (k .1))
+    (ap openedResult (sym (k .0)), sym (k .1))
 
 enum-told-2 : tie.Need-enum-told-2
 enum-told-2 c = search needs
@@ -82,7 +87,8 @@ add-memory : tie.Need-add-memory
 add-memory c =
     let s = c .before .before .before .before .before .before .before .before .before .before .before .before .before .before .args in
     let w = c .before .before .before .before .before .before .before .before .before .before .unpack in
-    let e = sym (w .ensures .0) ∙ c .before .before .before .before .before .before .before .opened .given .1 in
+    let opened = c .before .before .before .before .before .before .before .opened in
+    let e = sym (w .ensures .0) ∙ opened .given .1 in
     let o = opens-facts (s .run .now) (length (s .dst .now)) e in
     omega (arith, o .most)
 
@@ -90,7 +96,8 @@ array-share-prefix-memory : tie.Need-array-share-prefix-memory
 array-share-prefix-memory c =
     let s = c .before .before .before .before .before .before .before .before .before .before .before .before .before .before .args in
     let w = c .before .before .before .before .before .before .before .before .before .before .unpack in
-    let e = sym (w .ensures .0) ∙ c .before .before .before .before .before .before .before .opened .given .1 in
+    let opened = c .before .before .before .before .before .before .before .opened in
+    let e = sym (w .ensures .0) ∙ opened .given .1 in
     let o = opens-facts (s .run .now) (length (s .dst .now)) e in
     rw (w .kept .1 .1 .0) (omega (arith, o .most))
 
@@ -98,7 +105,8 @@ slice-aggregate-copy : tie.Need-slice-aggregate-copy
 slice-aggregate-copy c =
     let s = c .before .before .before .before .before .before .before .before .before .before .before .before .before .before .before .args in
     let w = c .before .before .before .before .before .before .before .before .before .before .before .unpack in
-    let e = sym (w .ensures .0) ∙ c .before .before .before .before .before .before .before .before .opened .given .1 in
+    let opened = c .before .before .before .before .before .before .before .before .opened in
+    let e = sym (w .ensures .0) ∙ opened .given .1 in
     let o = opens-facts (s .run .now) (length (s .dst .now)) e in
     sym (length-take-le _ (w .last .1 .1 .0) (rw (w .kept .1 .1 .0) (omega (arith, o .most))))
 
@@ -106,7 +114,8 @@ copy-requires : tie.Need-copy-requires
 copy-requires c κs =
     let s = c .before .before .before .before .before .before .before .before .before .before .before .before .before .before .before .before .args in
     let w = c .before .before .before .before .before .before .before .before .before .before .before .before .unpack in
-    let e = sym (w .ensures .0) ∙ c .before .before .before .before .before .before .before .before .before .opened .given .1 in
+    let opened = c .before .before .before .before .before .before .before .before .before .opened in
+    let e = sym (w .ensures .0) ∙ opened .given .1 in
     let o = opens-facts (s .run .now) (length (s .dst .now)) e in
     rw length-take (omega (arith, o .fits, o .inside, o .long))
 
@@ -115,16 +124,22 @@ same-length c = search needs
 
 returns-3 : tie.Need-returns-3
 returns-3 c =
-    let s = c .before .before .before .before .before .before .before .before .before .before .before .before .before .before .before .before .before .before .before .args in
+    let back = c .before .before .before .before .before .before .before .before .before .before .before .before .before .before .before .before in
+    let s = back .before .before .before .args in
     let w = c .before .before .before .before .before .before .before .before .before .before .before .before .before .before .before .unpack in
-    let e = sym (w .ensures .0) ∙ c .before .before .before .before .before .before .before .before .before .before .before .before .opened .given .1 in
+    let opened = c .before .before .before .before .before .before .before .before .before .before .before .before .opened in
+    let fits-read = c .before .before .before .before .before .before .before .before .fits-read in
+    let check = c .before .before .before .before .before .before .before .check in
+    let enum-told2 = c .before .before .before .before .before .enum-told2 in
+    let copy = c .before .before .copy in
+    let e = sym (w .ensures .0) ∙ opened .given .1 in
     let o = opens-facts (s .run .now) (length (s .dst .now)) e in
     let p = payload-seen (s .run .now) (length (s .dst .now)) (w .last .1 .1 .0) e (w .ensures .1) in
-    let f = c .before .before .before .before .before .before .before .before .fits-read .ensures in
-    let q = rw (f, p) at (c .before .before .before .before .before .before .before .judge .ensures) in
-    let j = sym (judged-same _ _ q) ∙ c .before .before .before .before .before .enum-told2 .given .1 in
+    let f = fits-read .ensures in
+    let q = rw (f, p) at (check .ensures) in
+    let j = sym (judged-same _ _ q) ∙ enum-told2 .given .1 in
     let k = takes (s .kinds) (s .run .now) (s .dst .now) e j in
-    (ap openedSays (sym (k .0)), rw (w .ensures .1, unpack-body _ _ _ e (le-refl 282)) at (c .before .before .copy .ensures) ∙ sym (k .1))
+    (ap openedResult (sym (k .0)), rw (w .ensures .1, unpack-body _ _ _ e (le-refl 282)) at (copy .ensures) ∙ sym (k .1))
 
 pub receive-spec : {M : Type 1} → statement M
 receive-spec =
@@ -140,7 +155,7 @@ receive-spec =
     part-fits-read-start
     part-fits-read-end
     fits-read-requires
-    judge-requires
+    check-requires
     enum-known-r
     returns-2
     enum-told-2

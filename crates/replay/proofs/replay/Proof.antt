@@ -11,7 +11,11 @@ use Rattle.replay.proofs.replay.Tie as tie
 
 abbrev Inv-loop : tie.InvT-loop
 Inv-loop fd line₀ bytes₀ run₀ commands₀ packets₀ out₀ piece₀ s₀ i₀ line bytes run commands packets out piece s i =
-    (i ≤ 4611686018427387904) × ((length line ≡ length line₀) × ((length bytes ≡ length bytes₀) × ((length out ≡ length out₀) × (length piece ≡ length piece₀))))
+    (i ≤ 4611686018427387904)
+    × (length line ≡ length line₀)
+    × (length bytes ≡ length bytes₀)
+    × (length out ≡ length out₀)
+    × (length piece ≡ length piece₀)
 
 abbrev μ-loop : tie.MeasureT-loop
 μ-loop fd line₀ bytes₀ run₀ commands₀ packets₀ out₀ piece₀ s₀ i₀ line bytes run commands packets out piece s i =
@@ -34,30 +38,53 @@ enum-known-t c = search needs
 
 loop-less : tie.Need-loop-less Inv-loop μ-loop
 loop-less c =
-    omega (arith, c .before .before .before .before .before .before .before .before .before .before .before .before .before .before .before .before .before .before .before .loop-test .taken)
+    let back = c .before .before .before .before .before .before .before .before .before .before .before .before .before .before .before .before in
+    let loop-test = back .before .before .before .loop-test in
+    omega (arith, loop-test .taken)
 
 loop-again : tie.Need-loop-again Inv-loop μ-loop
 loop-again c =
-    (omega (arith, c .before .before .before .before .before .before .before .before .before .before .before .before .before .before .before .before .before .before .before .loop-test .taken), (c .before .before .before .before .before .before .before .before .before .before .before .turn .kept .1 .0 ∙ c .before .before .before .before .before .before .before .before .before .before .before .before .before .before .before .before .before .before .before .before .loop .inv .1 .0, (c .before .before .before .before .before .before .before .before .before .before .before .turn .kept .1 .1 .0 ∙ c .before .before .before .before .before .before .before .before .before .before .before .before .before .before .before .before .before .before .before .before .loop .inv .1 .1 .0, (c .before .before .before .before .before .before .before .before .before .before .before .turn .kept .1 .1 .1 .1 .1 .1 .0 ∙ c .before .before .before .before .before .before .before .before .before .before .before .before .before .before .before .before .before .before .before .before .loop .inv .1 .1 .1 .0, c .before .before .before .before .before .before .before .before .before .before .before .turn .kept .1 .1 .1 .1 .1 .1 .1 .0 ∙ c .before .before .before .before .before .before .before .before .before .before .before .before .before .before .before .before .before .before .before .before .loop .inv .1 .1 .1 .1))))
+    let back = c .before .before .before .before .before .before .before .before .before .before .before .before .before .before .before .before in
+    let loop = back .before .before .before .before .loop in
+    let loop-test = back .before .before .before .loop-test in
+    let turn = c .before .before .before .before .before .before .before .before .before .before .before .turn in (
+      omega (arith, loop-test .taken),
+      turn .kept .1 .0 ∙ loop .inv .1,
+      turn .kept .1 .1 .0 ∙ loop .inv .2,
+      turn .kept .1 .1 .1 .1 .1 .1 .0 ∙ loop .inv .3,
+      turn .kept .1 .1 .1 .1 .1 .1 .1 .0 ∙ loop .inv .4,
+    )
 
 enum-known-t-2 : tie.Need-enum-known-t-2 Inv-loop μ-loop
 enum-known-t-2 c = search needs
 
 same-length : tie.Need-same-length Inv-loop μ-loop
 same-length c =
-    c .before .before .before .before .before .before .before .before .before .before .before .turn .kept .1 .0 ∙ c .before .before .before .before .before .before .before .before .before .before .before .before .before .before .before .before .before .before .before .before .loop .inv .1 .0
+    let back = c .before .before .before .before .before .before .before .before .before .before .before .before .before .before .before .before in
+    let loop = back .before .before .before .before .loop in
+    let turn = c .before .before .before .before .before .before .before .before .before .before .before .turn in
+    turn .kept .1 .0 ∙ loop .inv .1
 
 same-length-2 : tie.Need-same-length-2 Inv-loop μ-loop
 same-length-2 c =
-    c .before .before .before .before .before .before .before .before .before .before .before .turn .kept .1 .1 .0 ∙ c .before .before .before .before .before .before .before .before .before .before .before .before .before .before .before .before .before .before .before .before .loop .inv .1 .1 .0
+    let back = c .before .before .before .before .before .before .before .before .before .before .before .before .before .before .before .before in
+    let loop = back .before .before .before .before .loop in
+    let turn = c .before .before .before .before .before .before .before .before .before .before .before .turn in
+    turn .kept .1 .1 .0 ∙ loop .inv .2
 
 same-length-3 : tie.Need-same-length-3 Inv-loop μ-loop
 same-length-3 c =
-    c .before .before .before .before .before .before .before .before .before .before .before .turn .kept .1 .1 .1 .1 .1 .1 .0 ∙ c .before .before .before .before .before .before .before .before .before .before .before .before .before .before .before .before .before .before .before .before .loop .inv .1 .1 .1 .0
+    let back = c .before .before .before .before .before .before .before .before .before .before .before .before .before .before .before .before in
+    let loop = back .before .before .before .before .loop in
+    let turn = c .before .before .before .before .before .before .before .before .before .before .before .turn in
+    turn .kept .1 .1 .1 .1 .1 .1 .0 ∙ loop .inv .3
 
 same-length-4 : tie.Need-same-length-4 Inv-loop μ-loop
 same-length-4 c =
-    c .before .before .before .before .before .before .before .before .before .before .before .turn .kept .1 .1 .1 .1 .1 .1 .1 .0 ∙ c .before .before .before .before .before .before .before .before .before .before .before .before .before .before .before .before .before .before .before .before .loop .inv .1 .1 .1 .1
+    let back = c .before .before .before .before .before .before .before .before .before .before .before .before .before .before .before .before in
+    let loop = back .before .before .before .before .loop in
+    let turn = c .before .before .before .before .before .before .before .before .before .before .before .turn in
+    turn .kept .1 .1 .1 .1 .1 .1 .1 .0 ∙ loop .inv .4
 
 returns : tie.Need-returns Inv-loop μ-loop
 returns c = search needs

@@ -8,7 +8,7 @@ use mir.Facts.{toZ-ofZ}
 use mir.Syntax.{w16, w32}
 use lib.ListN.{getD}
 use Rattle.buffer.specs.Lay.{lay}
-use Rattle.scalar.specs.Scalars.{le, i16, i32, unsigned}
+use Rattle.scalar.specs.Scalars.{le, sign16, sign32, unsigned}
 use Rattle.rx.specs.Rx.{rxBytes}
 use borrow.Author.Needs.{needs}
 use Rattle.rx.proofs.rx_bytes.Statement.{statement}
@@ -53,15 +53,23 @@ bytes-of-u64-requires-5 c κs = search needs
 returns : tie.Need-returns
 unfolding rxBytes lay le
 returns c =
-    let m = c .before .before .before .before .before .before .before .before .before .before .before .before .args .m in
-    let good = c .before .before .before .before .before .before .before .before .before .before .before .before .good in
+    let start = c .before .before .before .before .before .before .before .before .before .before .before .before in
+    let u16-of = c .before .before .before .before .before .before .before .before .before .before .u16-of in
+    let bytes-of-u64 = c .before .before .before .before .before .before .before .before .before .bytes-of-u64 in
+    let u16-of2 = c .before .before .before .before .before .before .before .u16-of2 in
+    let bytes-of-u642 = c .before .before .before .before .before .before .bytes-of-u642 in
+    let u32-of = c .before .before .before .before .u32-of in
+    let bytes-of-u643 = c .before .before .before .bytes-of-u643 in
+    let bytes-of-u644 = c .before .before .bytes-of-u644 in
+    let m = start .args .m in
+    let good = start .good in
     let rssi-held = toZ-ofZ {w = w16} {z = m .rssi} record { sfits = omega (arith, good) } in
     let snr-held = toZ-ofZ {w = w16} {z = m .snr} record { sfits = omega (arith, good) } in
     let error-held = toZ-ofZ {w = w32} {z = m .«freq_err»} record { sfits = omega (arith, good) } in
-    let rssi = c .before .before .before .before .before .before .before .before .before .bytes-of-u64 .ensures ∙ ap (le 8) (c .before .before .before .before .before .before .before .before .before .before .u16-of .ensures ∙ ap (unsigned i16) rssi-held) in
-    let snr = c .before .before .before .before .before .before .bytes-of-u642 .ensures ∙ ap (le 8) (c .before .before .before .before .before .before .before .u16-of2 .ensures ∙ ap (unsigned i16) snr-held) in
-    let error = c .before .before .before .bytes-of-u643 .ensures ∙ ap (le 8) (c .before .before .before .before .u32-of .ensures ∙ ap (unsigned i32) error-held) in
-    let time = c .before .before .bytes-of-u644 .ensures in
+    let rssi = bytes-of-u64 .ensures ∙ ap (le 8) (u16-of .ensures ∙ ap (unsigned sign16) rssi-held) in
+    let snr = bytes-of-u642 .ensures ∙ ap (le 8) (u16-of2 .ensures ∙ ap (unsigned sign16) snr-held) in
+    let error = bytes-of-u643 .ensures ∙ ap (le 8) (u32-of .ensures ∙ ap (unsigned sign32) error-held) in
+    let time = bytes-of-u644 .ensures in
     let lost = c .bytes-of-u645 .ensures in
     let valid = sym (mod-eq-of-lt {n = m .«crc_valid»} {m = 256} (omega (arith, good))) in
     let origin = sym (mod-eq-of-lt {n = m .origin} {m = 256} (omega (arith, good))) in

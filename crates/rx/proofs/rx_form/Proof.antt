@@ -25,8 +25,11 @@ shared-slice-read-crc-valid c = search needs
 returns-3 : tie.Need-returns-3
 unfolding rxForm
 returns-3 c =
-    let p = c .before .before .before .before .args .payload .now in
-    rw (← get-byte 16 p (omega arith)) (simp (le-ltb _ _ (c .before .before .before .if1 .left), le-ltb _ _ (c .before .before .if2 .left), lt-ltb _ _ (c .if3 .taken)))
+    let start = c .before .before .before .before in
+    let if1 = c .before .before .before .if1 in
+    let if2 = c .before .before .if2 in
+    let p = start .args .payload .now in
+    rw (← get-byte 16 p (omega arith)) (simp (le-ltb _ _ (if1 .left), le-ltb _ _ (if2 .left), lt-ltb _ _ (c .if3 .taken)))
 
 shared-slice-read-origin : tie.Need-shared-slice-read-origin
 shared-slice-read-origin c = search needs
@@ -34,16 +37,24 @@ shared-slice-read-origin c = search needs
 returns-4 : tie.Need-returns-4
 unfolding rxForm
 returns-4 c =
-    let p = c .before .before .before .before .before .before .args .payload .now in
+    let start = c .before .before .before .before .before .before in
+    let if1 = c .before .before .before .before .before .if1 in
+    let if2 = c .before .before .before .before .if2 in
+    let if3 = c .before .before .if3 in
+    let p = start .args .payload .now in
     rw (← get-byte 16 p (omega arith), ← get-byte 19 p (omega arith))
-    (simp (le-ltb _ _ (c .before .before .before .before .before .if1 .left), le-ltb _ _ (c .before .before .before .before .if2 .left), le-ltb _ _ (c .before .before .if3 .left), lt-ltb _ _ (c .if4 .taken)))
+    (simp (le-ltb _ _ (if1 .left), le-ltb _ _ (if2 .left), le-ltb _ _ (if3 .left), lt-ltb _ _ (c .if4 .taken)))
 
 returns-5 : tie.Need-returns-5
 unfolding rxForm
 returns-5 c =
-    let p = c .before .before .before .before .before .before .args .payload .now in
+    let start = c .before .before .before .before .before .before in
+    let if1 = c .before .before .before .before .before .if1 in
+    let if2 = c .before .before .before .before .if2 in
+    let if3 = c .before .before .if3 in
+    let p = start .args .payload .now in
     rw (← get-byte 16 p (omega arith), ← get-byte 19 p (omega arith))
-    (simp (le-ltb _ _ (c .before .before .before .before .before .if1 .left), le-ltb _ _ (c .before .before .before .before .if2 .left), le-ltb _ _ (c .before .before .if3 .left), le-ltb _ _ (c .if4 .left)))
+    (simp (le-ltb _ _ (if1 .left), le-ltb _ _ (if2 .left), le-ltb _ _ (if3 .left), le-ltb _ _ (c .if4 .left)))
 
 pub rx-form-spec : {M : Type 1} → statement M
 rx-form-spec =

@@ -4,7 +4,7 @@ use mathlib.Core.Path.{ap, _∙_}
 use native.Mathlib.Omega.{arith}
 use mir.Facts.{toZ-ofZ}
 use mir.Syntax.{w16, w32}
-use Rattle.scalar.specs.Scalars.{i16, i32, signed}
+use Rattle.scalar.specs.Scalars.{sign16, sign32, signed}
 use Rattle.scalar.proofs.Laws.{get-byte}
 use Rattle.rx.specs.Rx.{rxOf}
 use borrow.Author.Needs.{needs}
@@ -44,18 +44,27 @@ shared-slice-read-origin c = search needs
 returns : tie.Need-returns
 unfolding rxOf
 returns c =
-    let p = c .before .before .before .before .before .before .before .before .before .before .before .args .payload .now in
-    let rssi = c .before .before .before .before .before .before .before .before .i16-of in
-    let snr = c .before .before .before .before .before .before .i16-of2 in
-    let error = c .before .before .before .before .i32-of in
+    let start = c .before .before .before .before .before .before .before .before .before .before .before in
+    let u16-at = c .before .before .before .before .before .before .before .before .before .u16-at in
+    let i16-of = c .before .before .before .before .before .before .before .before .i16-of in
+    let u16-at2 = c .before .before .before .before .before .before .before .u16-at2 in
+    let i16-of2 = c .before .before .before .before .before .before .i16-of2 in
+    let u32-at = c .before .before .before .before .before .u32-at in
+    let i32-of = c .before .before .before .before .i32-of in
+    let u64-at = c .before .before .before .u64-at in
+    let u16-at3 = c .before .u16-at3 in
+    let p = start .args .payload .now in
+    let rssi = i16-of in
+    let snr = i16-of2 in
+    let error = i32-of in
     λ i.
     record {
-      rssi = (toZ-ofZ {w = w16} record { sfits = rssi .ok } ∙ rssi .ensures ∙ ap (signed i16) (c .before .before .before .before .before .before .before .before .before .u16-at .ensures)) i;
-      snr = (toZ-ofZ {w = w16} record { sfits = snr .ok } ∙ snr .ensures ∙ ap (signed i16) (c .before .before .before .before .before .before .before .u16-at2 .ensures)) i;
-      «freq_err» = (toZ-ofZ {w = w32} record { sfits = error .ok } ∙ error .ensures ∙ ap (signed i32) (c .before .before .before .before .before .u32-at .ensures)) i;
-      «timestamp_us» = c .before .before .before .u64-at .ensures i;
+      rssi = (toZ-ofZ {w = w16} record { sfits = rssi .ok } ∙ rssi .ensures ∙ ap (signed sign16) (u16-at .ensures)) i;
+      snr = (toZ-ofZ {w = w16} record { sfits = snr .ok } ∙ snr .ensures ∙ ap (signed sign16) (u16-at2 .ensures)) i;
+      «freq_err» = (toZ-ofZ {w = w32} record { sfits = error .ok } ∙ error .ensures ∙ ap (signed sign32) (u32-at .ensures)) i;
+      «timestamp_us» = u64-at .ensures i;
       «crc_valid» = get-byte 16 p (omega arith) i;
-      «packets_dropped» = c .before .u16-at3 .ensures i;
+      «packets_dropped» = u16-at3 .ensures i;
       origin = get-byte 19 p (omega arith) i;
     }
 

@@ -24,11 +24,13 @@ cast-high c = omega (arith, c .shared-slice-known2 .given (c .before .before .ar
 
 mul-result : tie.Need-mul-result
 mul-result c =
-    omega (arith, c .shared-slice-known2 .given (c .before .before .args .at), c .shared-slice-known2 .given (c .before .before .args .at + 1))
+    let start = c .before .before in
+    omega (arith, c .shared-slice-known2 .given (start .args .at), c .shared-slice-known2 .given (start .args .at + 1))
 
 add-result : tie.Need-add-result
 add-result c =
-    omega (arith, c .shared-slice-known2 .given (c .before .before .args .at), c .shared-slice-known2 .given (c .before .before .args .at + 1))
+    let start = c .before .before in
+    omega (arith, c .shared-slice-known2 .given (start .args .at), c .shared-slice-known2 .given (start .args .at + 1))
 
 returns : tie.Need-returns
 returns c =

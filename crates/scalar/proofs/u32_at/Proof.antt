@@ -29,7 +29,9 @@ add-result c = search needs
 
 returns : tie.Need-returns
 returns c =
-    get-join (c .before .before .before .args .at) 2 2 (c .before .before .before .args .s .now) (omega arith) (c .before .u16-at .ensures) (c .u16-at2 .ensures)
+    let start = c .before .before .before in
+    let u16-at = c .before .u16-at in
+    get-join (start .args .at) 2 2 (start .args .s .now) (omega arith) (u16-at .ensures) (c .u16-at2 .ensures)
 
 pub u32-at-spec : {M : Type 1} → statement M
 u32-at-spec =

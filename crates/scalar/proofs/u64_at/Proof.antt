@@ -29,7 +29,9 @@ add-result c = search needs
 
 returns : tie.Need-returns
 returns c =
-    get-join (c .before .before .before .args .at) 4 4 (c .before .before .before .args .s .now) (omega arith) (c .before .u32-at .ensures) (c .u32-at2 .ensures)
+    let start = c .before .before .before in
+    let u32-at = c .before .u32-at in
+    get-join (start .args .at) 4 4 (start .args .s .now) (omega arith) (u32-at .ensures) (c .u32-at2 .ensures)
 
 pub u64-at-spec : {M : Type 1} → statement M
 u64-at-spec =

@@ -1,7 +1,7 @@
 -- The radio that is left decides the order; all else is the definition's.
 -- Assumes nothing.
 use mathlib.Core.Path.{sym, _∙_}
-use Rattle.wire.specs.Wire.{sends}
+use Rattle.emit.specs.Emitting.{framesBytes}
 use Rattle.session.specs.Session.{endSession}
 use borrow.Author.Needs.{needs}
 use Rattle.session.proofs.end_session.Statement.{statement}
@@ -10,8 +10,8 @@ use Rattle.session.proofs.end_session.Tie as tie
 ended-requires : tie.Need-ended-requires
 ended-requires c κs = search needs
 
-deaf-requires : tie.Need-deaf-requires
-deaf-requires c κs = search needs
+clear-reception-requires : tie.Need-clear-reception-requires
+clear-reception-requires c κs = search needs
 
 is-free-requires : tie.Need-is-free-requires
 is-free-requires c κs = search needs
@@ -20,26 +20,34 @@ done-requires : tie.Need-done-requires
 done-requires c κs = search needs
 
 returns : tie.Need-returns
-unfolding endSession sends
+unfolding endSession framesBytes
 returns c =
-    let f = rw (c .before .before .before .before .ended .ensures) at (sym (c .before .before .is-free .ensures) ∙ c .before .if1 .taken) in
-    simp f (rw (c .before .before .before .before .ended .ensures, c .before .before .before .deaf .ensures) at (c .done .ensures))
+    let ended = c .before .before .before .before .ended in
+    let clear-reception = c .before .before .before .clear-reception in
+    let is-free = c .before .before .is-free in
+    let if1 = c .before .if1 in
+    let f = rw (ended .ensures) at (sym (is-free .ensures) ∙ if1 .taken) in
+    simp f (rw (ended .ensures, clear-reception .ensures) at (c .done .ensures))
 
 done-requires-2 : tie.Need-done-requires-2
 done-requires-2 c κs = search needs
 
 returns-2 : tie.Need-returns-2
-unfolding endSession sends
+unfolding endSession framesBytes
 returns-2 c =
-    let f = rw (c .before .before .before .before .ended .ensures) at (sym (c .before .before .is-free .ensures) ∙ c .before .if1 .left) in
-    simp f (rw (c .before .before .before .before .ended .ensures, c .before .before .before .deaf .ensures) at (c .done2 .ensures))
+    let ended = c .before .before .before .before .ended in
+    let clear-reception = c .before .before .before .clear-reception in
+    let is-free = c .before .before .is-free in
+    let if1 = c .before .if1 in
+    let f = rw (ended .ensures) at (sym (is-free .ensures) ∙ if1 .left) in
+    simp f (rw (ended .ensures, clear-reception .ensures) at (c .done2 .ensures))
 
 pub end-session-spec : {M : Type 1} → statement M
 end-session-spec =
     tie.close
     (tie.spec
     ended-requires
-    deaf-requires
+    clear-reception-requires
     is-free-requires
     done-requires
     returns

@@ -1,6 +1,6 @@
 -- A slot begins at its number times its size.
 -- Assumes nothing.
-use Rattle.slot.specs.Slots.{kept}
+use Rattle.slot.specs.Slots.{commandKept}
 use borrow.Author.Needs.{needs}
 use Rattle.slot.proofs.keep.Statement.{statement}
 use Rattle.slot.proofs.keep.Tie as tie
@@ -12,7 +12,7 @@ put-requires : tie.Need-put-requires
 put-requires c κs = search needs
 
 returns : tie.Need-returns
-unfolding kept
+unfolding commandKept
 returns c =
     c .put .ensures
 

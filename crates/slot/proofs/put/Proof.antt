@@ -29,22 +29,34 @@ add-copy c = search needs
 
 copy-requires : tie.Need-copy-requires
 copy-requires c κs =
-    rw (c .before .before .bytes-of-u16 .ensures, length-le, length-set) (omega (arith, c .before .before .before .before .before .pre .0))
+    let start = c .before .before .before .before .before in
+    let bytes-of-u16 = c .before .before .bytes-of-u16 in
+    rw (bytes-of-u16 .ensures, length-le, length-set) (omega (arith, start .pre .0))
 
 add-copy-2 : tie.Need-add-copy-2
 add-copy-2 c = search needs
 
 copy-requires-2 : tie.Need-copy-requires-2
 copy-requires-2 c κs =
-    rw (c .before .before .before .copy .kept .1 .0, length-set) (omega (arith, c .before .before .before .before .before .before .before .before .before .pre .0))
+    let start = c .before .before .before .before .before .before .before .before .before in
+    let copy = c .before .before .before .copy in
+    rw (copy .kept .1 .0, length-set) (omega (arith, start .pre .0))
 
 same-length : tie.Need-same-length
 same-length c =
-    c .before .before .copy2 .kept .1 .0 ∙ c .before .before .before .before .before .before .copy .kept .1 .0 ∙ simp length-set
+    let copy = c .before .before .before .before .before .before .copy in
+    let copy2 = c .before .before .copy2 in
+    copy2 .kept .1 .0 ∙ copy .kept .1 .0 ∙ simp length-set
 
 returns : tie.Need-returns
 returns c =
-    rw (c .before .before .copy2 .ensures, c .before .before .before .before .before .before .copy .ensures, c .before .before .before .before .before .before .before .before .before .bytes-of-u16 .ensures) (slot-laid (c .before .before .before .before .before .before .before .before .before .before .before .before .args .at) (c .before .before .before .before .before .before .before .before .before .before .before .before .args .tag) (c .before .before .before .before .before .before .before .before .before .before .before .before .args .payload .now) (c .before .before .before .before .before .before .before .before .before .before .before .before .args .memory .now) (omega (arith, c .before .before .before .before .before .before .before .before .before .before .before .before .pre .0)))
+    let start = c .before .before .before .before .before .before .before .before .before .before .before .before in
+    let bytes-of-u16 = c .before .before .before .before .before .before .before .before .before .bytes-of-u16 in
+    let copy = c .before .before .before .before .before .before .copy in
+    let copy2 = c .before .before .copy2 in
+    let s = start .args in
+    rw (copy2 .ensures, copy .ensures, bytes-of-u16 .ensures)
+    (slot-laid (s .at) (s .tag) (s .payload .now) (s .memory .now) (omega (arith, start .pre .0)))
 
 pub put-spec : {M : Type 1} → statement M
 put-spec =

@@ -17,16 +17,21 @@ slice-aggregate-put c = search needs
 
 put-requires : tie.Need-put-requires
 put-requires c κs =
-    let e = c .before .before .decimal .ensures .1 .1 ∙ fewest (c .before .before .before .before .before .args .n) _ (c .before .before .before .before .before .fits .n .fits) (c .before .before .decimal .ensures .1 .0) in
-    rw e (c .before .before .before .before .before .pre)
+    let start = c .before .before .before .before .before in
+    let decimal = c .before .before .decimal in
+    let e = decimal .ensures .1 .1 ∙ fewest (start .args .n) _ (start .fits .n .fits) (decimal .ensures .1 .0) in
+    rw e (start .pre)
 
 same-length : tie.Need-same-length
 same-length c = search needs
 
 returns : tie.Need-returns
 returns c =
-    let e = c .before .before .before .before .before .decimal .ensures .1 .1 ∙ fewest (c .before .before .before .before .before .before .before .before .args .n) _ (c .before .before .before .before .before .before .before .before .fits .n .fits) (c .before .before .before .before .before .decimal .ensures .1 .0) in
-    (rw e at (c .before .before .put .ensures .0), rw e at (c .before .before .put .ensures .1))
+    let start = c .before .before .before .before .before .before .before .before in
+    let decimal = c .before .before .before .before .before .decimal in
+    let put = c .before .before .put in
+    let e = decimal .ensures .1 .1 ∙ fewest (start .args .n) _ (start .fits .n .fits) (decimal .ensures .1 .0) in
+    (rw e at (put .ensures .0), rw e at (put .ensures .1))
 
 pub decimal-spec : {M : Type 1} → statement M
 decimal-spec =

@@ -35,7 +35,10 @@ digit-requires c κs =
 
 slice-write-dst : tie.Need-slice-write-dst Inv-loop μ-loop
 slice-write-dst c =
-    omega (arith, two-fit (c .before .before .before .before .before .before .args .bytes .now) (c .before .before .before .loop .i) (c .before .before .loop-test .taken) (c .before .before .before .loop .inv .1))
+    let start = c .before .before .before .before .before .before in
+    let loop = c .before .before .before .loop in
+    let loop-test = c .before .before .loop-test in
+    omega (arith, two-fit (start .args .bytes .now) (loop .i) (loop-test .taken) (loop .inv .1))
 
 digit-requires-2 : tie.Need-digit-requires-2 Inv-loop μ-loop
 digit-requires-2 c κs =
@@ -43,23 +46,38 @@ digit-requires-2 c κs =
 
 add-dst : tie.Need-add-dst Inv-loop μ-loop
 add-dst c =
-    omega (arith, two-fit (c .before .before .before .before .before .before .before .args .bytes .now) (c .before .before .before .before .loop .i) (c .before .before .before .loop-test .taken) (c .before .before .before .before .loop .inv .1))
+    let start = c .before .before .before .before .before .before .before in
+    let loop = c .before .before .before .before .loop in
+    let loop-test = c .before .before .before .loop-test in
+    omega (arith, two-fit (start .args .bytes .now) (loop .i) (loop-test .taken) (loop .inv .1))
 
 slice-write-dst-2 : tie.Need-slice-write-dst-2 Inv-loop μ-loop
 slice-write-dst-2 c =
-    omega (arith, two-fit (c .before .before .before .before .before .before .before .args .bytes .now) (c .before .before .before .before .loop .i) (c .before .before .before .loop-test .taken) (c .before .before .before .before .loop .inv .1), length-set (c .before .before .before .before .loop .dst) (c .before .before .before .before .loop .at) (c .before .digit .result))
+    let start = c .before .before .before .before .before .before .before in
+    let loop = c .before .before .before .before .loop in
+    let loop-test = c .before .before .before .loop-test in
+    let digit = c .before .digit in
+    omega (arith, two-fit (start .args .bytes .now) (loop .i) (loop-test .taken) (loop .inv .1), length-set (loop .dst) (loop .at) (digit .result))
 
 add-at : tie.Need-add-at Inv-loop μ-loop
 add-at c =
-    omega (arith, two-fit (c .before .before .before .before .before .before .before .args .bytes .now) (c .before .before .before .before .loop .i) (c .before .before .before .loop-test .taken) (c .before .before .before .before .loop .inv .1))
+    let start = c .before .before .before .before .before .before .before in
+    let loop = c .before .before .before .before .loop in
+    let loop-test = c .before .before .before .loop-test in
+    omega (arith, two-fit (start .args .bytes .now) (loop .i) (loop-test .taken) (loop .inv .1))
 
 loop-less : tie.Need-loop-less Inv-loop μ-loop
 loop-less c =
-    omega (arith, c .before .before .before .loop-test .taken)
+    let loop-test = c .before .before .before .loop-test in
+    omega (arith, loop-test .taken)
 
 loop-again : tie.Need-loop-again Inv-loop μ-loop
 loop-again c =
-    (omega (arith, c .before .before .before .loop-test .taken), rw (c .before .digit .ensures, c .digit2 .ensures) (two (c .before .before .before .before .before .before .before .args .bytes .now) (c .before .before .before .before .loop .i) (c .before .before .before .loop-test .taken) (c .before .before .before .before .loop .inv .1)))
+    let start = c .before .before .before .before .before .before .before in
+    let loop = c .before .before .before .before .loop in
+    let loop-test = c .before .before .before .loop-test in
+    let digit = c .before .digit in
+    (omega (arith, loop-test .taken), rw (digit .ensures, c .digit2 .ensures) (two (start .args .bytes .now) (loop .i) (loop-test .taken) (loop .inv .1)))
 
 same-length : tie.Need-same-length Inv-loop μ-loop
 same-length c =
@@ -68,8 +86,10 @@ same-length c =
 returns : tie.Need-returns Inv-loop μ-loop
 unfolding hex
 returns c =
-    let e = no-more (c .before .before .before .before .args .bytes .now) (c .before .loop .i) (omega arith) in
-    let l = rw e at (c .before .loop .inv .1) in
+    let start = c .before .before .before .before in
+    let loop = c .before .loop in
+    let e = no-more (start .args .bytes .now) (loop .i) (omega arith) in
+    let l = rw e at (loop .inv .1) in
     (omega (arith, l .size), done l)
 
 pub hex-spec : {M : Type 1} → statement M

@@ -20,7 +20,10 @@ returns c =
 put-line-requires : tie.Need-put-line-requires
 unfolding eventText
 put-line-requires c κs =
-    simp (sym (c .before .before .is-plain .ensures) ∙ c .before .if1 .left) at (c .before .before .before .before .before .before .pre)
+    let start = c .before .before .before .before .before .before in
+    let is-plain = c .before .before .is-plain in
+    let if1 = c .before .if1 in
+    simp (sym (is-plain .ensures) ∙ if1 .left) at (start .pre)
 
 same-length : tie.Need-same-length
 same-length c = search needs
@@ -28,7 +31,10 @@ same-length c = search needs
 returns-2 : tie.Need-returns-2
 unfolding eventText
 returns-2 c =
-    simp (sym (c .before .before .before .before .before .is-plain .ensures) ∙ c .before .before .before .before .if1 .left) (c .before .before .put-line .ensures)
+    let is-plain = c .before .before .before .before .before .is-plain in
+    let if1 = c .before .before .before .before .if1 in
+    let put-line = c .before .before .put-line in
+    simp (sym (is-plain .ensures) ∙ if1 .left) (put-line .ensures)
 
 pub event-spec : {M : Type 1} → statement M
 event-spec = tie.close (tie.spec is-plain-requires returns put-line-requires same-length returns-2)

@@ -18,7 +18,9 @@ is-none-requires c κs = search needs
 
 returns-3 : tie.Need-returns-3
 returns-3 c =
-    simp (eq-eqb _ _ (c .before .before .before .if1 .left), eq-eqb _ _ (c .before .if2 .left)) (c .is-none .ensures)
+    let if1 = c .before .before .before .if1 in
+    let if2 = c .before .if2 in
+    simp (eq-eqb _ _ (if1 .left), eq-eqb _ _ (if2 .left)) (c .is-none .ensures)
 
 pub is-plain-spec : {M : Type 1} → statement M
 is-plain-spec = tie.close (tie.spec returns returns-2 is-none-requires returns-3)

@@ -10,25 +10,35 @@ slice-aggregate-put c = search needs
 
 put-requires : tie.Need-put-requires
 put-requires c κs =
-    rw (dash (c .before .before .before .before .before .args .bytes .now) (c .before .before .if1 .taken)) at (c .before .before .before .before .before .pre)
+    let start = c .before .before .before .before .before in
+    let if1 = c .before .before .if1 in
+    rw (dash (start .args .bytes .now) (if1 .taken)) at (start .pre)
 
 same-length : tie.Need-same-length
 same-length c = search needs
 
 returns : tie.Need-returns
 returns c =
-    rw (dash (c .before .before .before .before .before .before .before .before .args .bytes .now) (c .before .before .before .before .before .if1 .taken)) (c .before .before .put .ensures)
+    let start = c .before .before .before .before .before .before .before .before in
+    let if1 = c .before .before .before .before .before .if1 in
+    let put = c .before .before .put in
+    rw (dash (start .args .bytes .now) (if1 .taken)) (put .ensures)
 
 hex-requires : tie.Need-hex-requires
 hex-requires c κs =
-    rw (digits (c .before .before .before .before .args .bytes .now) (c .before .if1 .left)) at (c .before .before .before .before .pre)
+    let start = c .before .before .before .before in
+    let if1 = c .before .if1 in
+    rw (digits (start .args .bytes .now) (if1 .left)) at (start .pre)
 
 same-length-2 : tie.Need-same-length-2
 same-length-2 c = search needs
 
 returns-2 : tie.Need-returns-2
 returns-2 c =
-    rw (digits (c .before .before .before .before .before .before .before .args .bytes .now) (c .before .before .before .before .if1 .left)) (c .before .before .hex .ensures)
+    let start = c .before .before .before .before .before .before .before in
+    let if1 = c .before .before .before .before .if1 in
+    let hex = c .before .before .hex in
+    rw (digits (start .args .bytes .now) (if1 .left)) (hex .ensures)
 
 pub put-bytes-spec : {M : Type 1} → statement M
 put-bytes-spec =

@@ -16,18 +16,25 @@ put-requires c κs = search needs
 
 put-bytes-requires : tie.Need-put-bytes-requires
 put-bytes-requires c κs =
-    let l0 = start (c .before .before .before .before .before .before .before .before .args .from) (lineEnd (c .before .before .before .before .before .before .before .before .args .bytes .now)) (c .before .before .before .before .before .before .before .before .args .dst .now) (c .before .before .before .before .before .before .before .before .pre) in
-    let l1 = wrote (text " ") _ l0 (c .before .before .before .put .ensures) in
-    fits (bytesText (c .before .before .before .before .before .before .before .before .args .bytes .now)) _ l1
+    let start' = c .before .before .before .before .before .before .before .before in
+    let put = c .before .before .before .put in
+    let s = start' .args in
+    let l0 = start (s .from) (lineEnd (s .bytes .now)) (s .dst .now) (start' .pre) in
+    let l1 = wrote (text " ") _ l0 (put .ensures) in
+    fits (bytesText (s .bytes .now)) _ l1
 
 slice-aggregate-put-2 : tie.Need-slice-aggregate-put-2
 slice-aggregate-put-2 c = search needs
 
 put-requires-2 : tie.Need-put-requires-2
 put-requires-2 c κs =
-    let l0 = start (c .before .before .before .before .before .before .before .before .before .before .before .before .before .args .from) (lineEnd (c .before .before .before .before .before .before .before .before .before .before .before .before .before .args .bytes .now)) (c .before .before .before .before .before .before .before .before .before .before .before .before .before .args .dst .now) (c .before .before .before .before .before .before .before .before .before .before .before .before .before .pre) in
-    let l1 = wrote (text " ") _ l0 (c .before .before .before .before .before .before .before .before .put .ensures) in
-    let l2 = wrote (bytesText (c .before .before .before .before .before .before .before .before .before .before .before .before .before .args .bytes .now)) _ l1 (c .before .before .before .before .put-bytes .ensures) in
+    let start' = c .before .before .before .before .before .before .before .before .before .before .before .before .before in
+    let put = c .before .before .before .before .before .before .before .before .put in
+    let put-bytes = c .before .before .before .before .put-bytes in
+    let s = start' .args in
+    let l0 = start (s .from) (lineEnd (s .bytes .now)) (s .dst .now) (start' .pre) in
+    let l1 = wrote (text " ") _ l0 (put .ensures) in
+    let l2 = wrote (bytesText (s .bytes .now)) _ l1 (put-bytes .ensures) in
     last-fits l2
 
 same-length : tie.Need-same-length
@@ -35,10 +42,15 @@ same-length c = search needs
 
 returns : tie.Need-returns
 returns c =
-    let l0 = start (c .before .before .before .before .before .before .before .before .before .before .before .before .before .before .before .before .args .from) (lineEnd (c .before .before .before .before .before .before .before .before .before .before .before .before .before .before .before .before .args .bytes .now)) (c .before .before .before .before .before .before .before .before .before .before .before .before .before .before .before .before .args .dst .now) (c .before .before .before .before .before .before .before .before .before .before .before .before .before .before .before .before .pre) in
-    let l1 = wrote (text " ") _ l0 (c .before .before .before .before .before .before .before .before .before .before .before .put .ensures) in
-    let l2 = wrote (bytesText (c .before .before .before .before .before .before .before .before .before .before .before .before .before .before .before .before .args .bytes .now)) _ l1 (c .before .before .before .before .before .before .before .put-bytes .ensures) in
-    ended _ l2 (c .before .before .put2 .ensures)
+    let start' = c .before .before .before .before .before .before .before .before .before .before .before .before .before .before .before .before in
+    let put = c .before .before .before .before .before .before .before .before .before .before .before .put in
+    let put-bytes = c .before .before .before .before .before .before .before .put-bytes in
+    let put2 = c .before .before .put2 in
+    let s = start' .args in
+    let l0 = start (s .from) (lineEnd (s .bytes .now)) (s .dst .now) (start' .pre) in
+    let l1 = wrote (text " ") _ l0 (put .ensures) in
+    let l2 = wrote (bytesText (s .bytes .now)) _ l1 (put-bytes .ensures) in
+    ended _ l2 (put2 .ensures)
 
 pub put-end-spec : {M : Type 1} → statement M
 put-end-spec =

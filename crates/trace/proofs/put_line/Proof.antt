@@ -1,64 +1,44 @@
 -- Each call lays the next piece of the line.
 -- Assumes nothing.
-use mathlib.Core.Path.{ap, _∙_}
-use lib.ListN.{length}
 use Rattle.buffer.proofs.Laying.{start, fits}
-use Rattle.buffer.proofs.Laws.{length-lay}
-use Rattle.text.specs.Text.{text, decimal}
 use Rattle.text.proofs.Writing.{wrote, last-fits, ended}
-use Rattle.trace.specs.Traces.{orderText, traceLine}
+use Rattle.trace.specs.Traces.{orderText, numberColumn, traceLine}
 use borrow.Author.Needs.{needs}
 use Rattle.trace.proofs.put_line.Statement.{statement}
 use Rattle.trace.proofs.put_line.Tie as tie
 
-decimal-requires : tie.Need-decimal-requires
+put-column-requires : tie.Need-put-column-requires
 unfolding traceLine
-decimal-requires c κs =
-    let l0 = start (c .before .before .before .before .args .from) (traceLine (c .before .before .before .before .args .k) (c .before .before .before .before .args .a) (c .before .before .before .before .args .commands .now) (c .before .before .before .before .args .out .now)) (c .before .before .before .before .args .dst .now) (c .before .before .before .before .pre) in
-    fits (decimal (c .before .before .before .before .args .k)) _ l0
+put-column-requires c κs =
+    let start' = c .before .before .before .before in
+    let s = start' .args in
+    let l0 = start (s .from) (traceLine (s .k) (s .a) (s .commands .now) (s .out .now)) (s .dst .now) (start' .pre) in
+    fits (numberColumn (s .k)) _ l0
 
-slice-aggregate-put : tie.Need-slice-aggregate-put
-slice-aggregate-put c = search needs
+cast-put-column : tie.Need-cast-put-column
+cast-put-column c = search needs
 
-put-requires : tie.Need-put-requires
+put-column-requires-2 : tie.Need-put-column-requires-2
 unfolding traceLine
-put-requires c κs =
-    let l0 = start (c .before .before .before .before .before .before .before .before .before .args .from) (traceLine (c .before .before .before .before .before .before .before .before .before .args .k) (c .before .before .before .before .before .before .before .before .before .args .a) (c .before .before .before .before .before .before .before .before .before .args .commands .now) (c .before .before .before .before .before .before .before .before .before .args .out .now)) (c .before .before .before .before .before .before .before .before .before .args .dst .now) (c .before .before .before .before .before .before .before .before .before .pre) in
-    let l1 = wrote (decimal (c .before .before .before .before .before .before .before .before .before .args .k)) _ l0 (c .before .before .before .before .decimal .ensures) in
-    fits (text " ") _ l1
-
-cast-decimal : tie.Need-cast-decimal
-cast-decimal c = search needs
-
-decimal-requires-2 : tie.Need-decimal-requires-2
-unfolding traceLine
-decimal-requires-2 c κs =
-    let l0 = start (c .before .before .before .before .before .before .before .before .before .before .before .before .before .before .args .from) (traceLine (c .before .before .before .before .before .before .before .before .before .before .before .before .before .before .args .k) (c .before .before .before .before .before .before .before .before .before .before .before .before .before .before .args .a) (c .before .before .before .before .before .before .before .before .before .before .before .before .before .before .args .commands .now) (c .before .before .before .before .before .before .before .before .before .before .before .before .before .before .args .out .now)) (c .before .before .before .before .before .before .before .before .before .before .before .before .before .before .args .dst .now) (c .before .before .before .before .before .before .before .before .before .before .before .before .before .before .pre) in
-    let l1 = wrote (decimal (c .before .before .before .before .before .before .before .before .before .before .before .before .before .before .args .k)) _ l0 (c .before .before .before .before .before .before .before .before .before .decimal .ensures) in
-    let l2 = wrote (text " ") _ l1 (c .before .before .before .before .put .ensures) in
-    fits (decimal (c .before .before .before .before .before .before .before .before .before .before .before .before .before .before .args .a .number)) _ l2
-
-slice-aggregate-put-2 : tie.Need-slice-aggregate-put-2
-slice-aggregate-put-2 c = search needs
-
-put-requires-2 : tie.Need-put-requires-2
-unfolding traceLine
-put-requires-2 c κs =
-    let l0 = start (c .before .before .before .before .before .before .before .before .before .before .before .before .before .before .before .before .before .before .before .args .from) (traceLine (c .before .before .before .before .before .before .before .before .before .before .before .before .before .before .before .before .before .before .before .args .k) (c .before .before .before .before .before .before .before .before .before .before .before .before .before .before .before .before .before .before .before .args .a) (c .before .before .before .before .before .before .before .before .before .before .before .before .before .before .before .before .before .before .before .args .commands .now) (c .before .before .before .before .before .before .before .before .before .before .before .before .before .before .before .before .before .before .before .args .out .now)) (c .before .before .before .before .before .before .before .before .before .before .before .before .before .before .before .before .before .before .before .args .dst .now) (c .before .before .before .before .before .before .before .before .before .before .before .before .before .before .before .before .before .before .before .pre) in
-    let l1 = wrote (decimal (c .before .before .before .before .before .before .before .before .before .before .before .before .before .before .before .before .before .before .before .args .k)) _ l0 (c .before .before .before .before .before .before .before .before .before .before .before .before .before .before .decimal .ensures) in
-    let l2 = wrote (text " ") _ l1 (c .before .before .before .before .before .before .before .before .before .put .ensures) in
-    let l3 = wrote (decimal (c .before .before .before .before .before .before .before .before .before .before .before .before .before .before .before .before .before .before .before .args .a .number)) _ l2 (c .before .before .before .before .decimal2 .ensures) in
-    fits (text " ") _ l3
+put-column-requires-2 c κs =
+    let start' = c .before .before .before .before .before .before .before .before .before in
+    let s = start' .args in
+    let put-column = c .before .before .before .before .put-column in
+    let l0 = start (s .from) (traceLine (s .k) (s .a) (s .commands .now) (s .out .now)) (s .dst .now) (start' .pre) in
+    let l1 = wrote (numberColumn (s .k)) _ l0 (put-column .ensures) in
+    fits (numberColumn (s .a .number)) _ l1
 
 put-order-requires : tie.Need-put-order-requires
 unfolding traceLine
 put-order-requires c κs =
-    let l0 = start (c .before .before .before .before .before .before .before .before .before .before .before .before .before .before .before .before .before .before .before .before .before .before .before .args .from) (traceLine (c .before .before .before .before .before .before .before .before .before .before .before .before .before .before .before .before .before .before .before .before .before .before .before .args .k) (c .before .before .before .before .before .before .before .before .before .before .before .before .before .before .before .before .before .before .before .before .before .before .before .args .a) (c .before .before .before .before .before .before .before .before .before .before .before .before .before .before .before .before .before .before .before .before .before .before .before .args .commands .now) (c .before .before .before .before .before .before .before .before .before .before .before .before .before .before .before .before .before .before .before .before .before .before .before .args .out .now)) (c .before .before .before .before .before .before .before .before .before .before .before .before .before .before .before .before .before .before .before .before .before .before .before .args .dst .now) (c .before .before .before .before .before .before .before .before .before .before .before .before .before .before .before .before .before .before .before .before .before .before .before .pre) in
-    let l1 = wrote (decimal (c .before .before .before .before .before .before .before .before .before .before .before .before .before .before .before .before .before .before .before .before .before .before .before .args .k)) _ l0 (c .before .before .before .before .before .before .before .before .before .before .before .before .before .before .before .before .before .before .decimal .ensures) in
-    let l2 = wrote (text " ") _ l1 (c .before .before .before .before .before .before .before .before .before .before .before .before .before .put .ensures) in
-    let l3 = wrote (decimal (c .before .before .before .before .before .before .before .before .before .before .before .before .before .before .before .before .before .before .before .before .before .before .before .args .a .number)) _ l2 (c .before .before .before .before .before .before .before .before .decimal2 .ensures) in
-    let l4 = wrote (text " ") _ l3 (c .before .before .before .put2 .ensures) in
-    fits (orderText (c .before .before .before .before .before .before .before .before .before .before .before .before .before .before .before .before .before .before .before .before .before .before .before .args .a .order) (c .before .before .before .before .before .before .before .before .before .before .before .before .before .before .before .before .before .before .before .before .before .before .before .args .commands .now)) _ l4
+    let start' = c .before .before .before .before .before .before .before .before .before .before .before .before .before in
+    let s = start' .args in
+    let put-column = c .before .before .before .before .before .before .before .before .put-column in
+    let put-column2 = c .before .before .before .put-column2 in
+    let l0 = start (s .from) (traceLine (s .k) (s .a) (s .commands .now) (s .out .now)) (s .dst .now) (start' .pre) in
+    let l1 = wrote (numberColumn (s .k)) _ l0 (put-column .ensures) in
+    let l2 = wrote (numberColumn (s .a .number)) _ l1 (put-column2 .ensures) in
+    fits (orderText (s .a .order) (s .commands .now)) _ l2
 
 part-requires : tie.Need-part-requires
 part-requires c κs = search needs
@@ -66,47 +46,46 @@ part-requires c κs = search needs
 put-end-requires : tie.Need-put-end-requires
 unfolding traceLine
 put-end-requires c κs =
-    let l0 = start (c .before .before .before .before .before .before .before .before .before .before .before .before .before .before .before .before .before .before .before .before .before .before .before .before .before .before .before .before .args .from) (traceLine (c .before .before .before .before .before .before .before .before .before .before .before .before .before .before .before .before .before .before .before .before .before .before .before .before .before .before .before .before .args .k) (c .before .before .before .before .before .before .before .before .before .before .before .before .before .before .before .before .before .before .before .before .before .before .before .before .before .before .before .before .args .a) (c .before .before .before .before .before .before .before .before .before .before .before .before .before .before .before .before .before .before .before .before .before .before .before .before .before .before .before .before .args .commands .now) (c .before .before .before .before .before .before .before .before .before .before .before .before .before .before .before .before .before .before .before .before .before .before .before .before .before .before .before .before .args .out .now)) (c .before .before .before .before .before .before .before .before .before .before .before .before .before .before .before .before .before .before .before .before .before .before .before .before .before .before .before .before .args .dst .now) (c .before .before .before .before .before .before .before .before .before .before .before .before .before .before .before .before .before .before .before .before .before .before .before .before .before .before .before .before .pre) in
-    let l1 = wrote (decimal (c .before .before .before .before .before .before .before .before .before .before .before .before .before .before .before .before .before .before .before .before .before .before .before .before .before .before .before .before .args .k)) _ l0 (c .before .before .before .before .before .before .before .before .before .before .before .before .before .before .before .before .before .before .before .before .before .before .before .decimal .ensures) in
-    let l2 = wrote (text " ") _ l1 (c .before .before .before .before .before .before .before .before .before .before .before .before .before .before .before .before .before .before .put .ensures) in
-    let l3 = wrote (decimal (c .before .before .before .before .before .before .before .before .before .before .before .before .before .before .before .before .before .before .before .before .before .before .before .before .before .before .before .before .args .a .number)) _ l2 (c .before .before .before .before .before .before .before .before .before .before .before .before .before .decimal2 .ensures) in
-    let l4 = wrote (text " ") _ l3 (c .before .before .before .before .before .before .before .before .put2 .ensures) in
-    let l5 = wrote (orderText (c .before .before .before .before .before .before .before .before .before .before .before .before .before .before .before .before .before .before .before .before .before .before .before .before .before .before .before .before .args .a .order) (c .before .before .before .before .before .before .before .before .before .before .before .before .before .before .before .before .before .before .before .before .before .before .before .before .before .before .before .before .args .commands .now)) _ l4 (c .before .before .before .before .put-order .ensures) in
-    rw (c .before .part .ensures) (last-fits l5)
+    let back = c .before .before .before .before .before .before .before .before .before .before .before .before .before .before .before .before in
+    let start' = back .before .before in
+    let s = start' .args in
+    let put-column = c .before .before .before .before .before .before .before .before .before .before .before .before .before .put-column in
+    let put-column2 = c .before .before .before .before .before .before .before .before .put-column2 in
+    let put-order = c .before .before .before .before .put-order in
+    let part = c .before .part in
+    let l0 = start (s .from) (traceLine (s .k) (s .a) (s .commands .now) (s .out .now)) (s .dst .now) (start' .pre) in
+    let l1 = wrote (numberColumn (s .k)) _ l0 (put-column .ensures) in
+    let l2 = wrote (numberColumn (s .a .number)) _ l1 (put-column2 .ensures) in
+    let l3 = wrote (orderText (s .a .order) (s .commands .now)) _ l2 (put-order .ensures) in
+    rw (part .ensures) (last-fits l3)
 
 same-length : tie.Need-same-length
-unfolding traceLine
-same-length c =
-    let l0 = start (c .before .before .before .before .before .before .before .before .before .before .before .before .before .before .before .before .before .before .before .before .before .before .before .before .before .before .before .before .before .before .before .args .from) (traceLine (c .before .before .before .before .before .before .before .before .before .before .before .before .before .before .before .before .before .before .before .before .before .before .before .before .before .before .before .before .before .before .before .args .k) (c .before .before .before .before .before .before .before .before .before .before .before .before .before .before .before .before .before .before .before .before .before .before .before .before .before .before .before .before .before .before .before .args .a) (c .before .before .before .before .before .before .before .before .before .before .before .before .before .before .before .before .before .before .before .before .before .before .before .before .before .before .before .before .before .before .before .args .commands .now) (c .before .before .before .before .before .before .before .before .before .before .before .before .before .before .before .before .before .before .before .before .before .before .before .before .before .before .before .before .before .before .before .args .out .now)) (c .before .before .before .before .before .before .before .before .before .before .before .before .before .before .before .before .before .before .before .before .before .before .before .before .before .before .before .before .before .before .before .args .dst .now) (c .before .before .before .before .before .before .before .before .before .before .before .before .before .before .before .before .before .before .before .before .before .before .before .before .before .before .before .before .before .before .before .pre) in
-    let l1 = wrote (decimal (c .before .before .before .before .before .before .before .before .before .before .before .before .before .before .before .before .before .before .before .before .before .before .before .before .before .before .before .before .before .before .before .args .k)) _ l0 (c .before .before .before .before .before .before .before .before .before .before .before .before .before .before .before .before .before .before .before .before .before .before .before .before .before .before .decimal .ensures) in
-    let l2 = wrote (text " ") _ l1 (c .before .before .before .before .before .before .before .before .before .before .before .before .before .before .before .before .before .before .before .before .before .put .ensures) in
-    let l3 = wrote (decimal (c .before .before .before .before .before .before .before .before .before .before .before .before .before .before .before .before .before .before .before .before .before .before .before .before .before .before .before .before .before .before .before .args .a .number)) _ l2 (c .before .before .before .before .before .before .before .before .before .before .before .before .before .before .before .before .decimal2 .ensures) in
-    let l4 = wrote (text " ") _ l3 (c .before .before .before .before .before .before .before .before .before .before .before .put2 .ensures) in
-    let l5 = wrote (orderText (c .before .before .before .before .before .before .before .before .before .before .before .before .before .before .before .before .before .before .before .before .before .before .before .before .before .before .before .before .before .before .before .args .a .order) (c .before .before .before .before .before .before .before .before .before .before .before .before .before .before .before .before .before .before .before .before .before .before .before .before .before .before .before .before .before .before .before .args .commands .now)) _ l4 (c .before .before .before .before .before .before .before .put-order .ensures) in
-    ap length (ended _ l5 (rw (c .before .before .before .before .part .ensures) at (c .before .before .put-end .ensures)) .1) ∙ length-lay (c .before .before .before .before .before .before .before .before .before .before .before .before .before .before .before .before .before .before .before .before .before .before .before .before .before .before .before .before .before .before .before .args .from) (traceLine (c .before .before .before .before .before .before .before .before .before .before .before .before .before .before .before .before .before .before .before .before .before .before .before .before .before .before .before .before .before .before .before .args .k) (c .before .before .before .before .before .before .before .before .before .before .before .before .before .before .before .before .before .before .before .before .before .before .before .before .before .before .before .before .before .before .before .args .a) (c .before .before .before .before .before .before .before .before .before .before .before .before .before .before .before .before .before .before .before .before .before .before .before .before .before .before .before .before .before .before .before .args .commands .now) (c .before .before .before .before .before .before .before .before .before .before .before .before .before .before .before .before .before .before .before .before .before .before .before .before .before .before .before .before .before .before .before .args .out .now)) (c .before .before .before .before .before .before .before .before .before .before .before .before .before .before .before .before .before .before .before .before .before .before .before .before .before .before .before .before .before .before .before .args .dst .now) (c .before .before .before .before .before .before .before .before .before .before .before .before .before .before .before .before .before .before .before .before .before .before .before .before .before .before .before .before .before .before .before .pre)
+same-length c = search needs
 
 returns : tie.Need-returns
 unfolding traceLine
 returns c =
-    let l0 = start (c .before .before .before .before .before .before .before .before .before .before .before .before .before .before .before .before .before .before .before .before .before .before .before .before .before .before .before .before .before .before .before .args .from) (traceLine (c .before .before .before .before .before .before .before .before .before .before .before .before .before .before .before .before .before .before .before .before .before .before .before .before .before .before .before .before .before .before .before .args .k) (c .before .before .before .before .before .before .before .before .before .before .before .before .before .before .before .before .before .before .before .before .before .before .before .before .before .before .before .before .before .before .before .args .a) (c .before .before .before .before .before .before .before .before .before .before .before .before .before .before .before .before .before .before .before .before .before .before .before .before .before .before .before .before .before .before .before .args .commands .now) (c .before .before .before .before .before .before .before .before .before .before .before .before .before .before .before .before .before .before .before .before .before .before .before .before .before .before .before .before .before .before .before .args .out .now)) (c .before .before .before .before .before .before .before .before .before .before .before .before .before .before .before .before .before .before .before .before .before .before .before .before .before .before .before .before .before .before .before .args .dst .now) (c .before .before .before .before .before .before .before .before .before .before .before .before .before .before .before .before .before .before .before .before .before .before .before .before .before .before .before .before .before .before .before .pre) in
-    let l1 = wrote (decimal (c .before .before .before .before .before .before .before .before .before .before .before .before .before .before .before .before .before .before .before .before .before .before .before .before .before .before .before .before .before .before .before .args .k)) _ l0 (c .before .before .before .before .before .before .before .before .before .before .before .before .before .before .before .before .before .before .before .before .before .before .before .before .before .before .decimal .ensures) in
-    let l2 = wrote (text " ") _ l1 (c .before .before .before .before .before .before .before .before .before .before .before .before .before .before .before .before .before .before .before .before .before .put .ensures) in
-    let l3 = wrote (decimal (c .before .before .before .before .before .before .before .before .before .before .before .before .before .before .before .before .before .before .before .before .before .before .before .before .before .before .before .before .before .before .before .args .a .number)) _ l2 (c .before .before .before .before .before .before .before .before .before .before .before .before .before .before .before .before .decimal2 .ensures) in
-    let l4 = wrote (text " ") _ l3 (c .before .before .before .before .before .before .before .before .before .before .before .put2 .ensures) in
-    let l5 = wrote (orderText (c .before .before .before .before .before .before .before .before .before .before .before .before .before .before .before .before .before .before .before .before .before .before .before .before .before .before .before .before .before .before .before .args .a .order) (c .before .before .before .before .before .before .before .before .before .before .before .before .before .before .before .before .before .before .before .before .before .before .before .before .before .before .before .before .before .before .before .args .commands .now)) _ l4 (c .before .before .before .before .before .before .before .put-order .ensures) in
-    ended _ l5 (rw (c .before .before .before .before .part .ensures) at (c .before .before .put-end .ensures))
+    let back = c .before .before .before .before .before .before .before .before .before .before .before .before .before .before .before .before in
+    let start' = back .before .before .before .before .before in
+    let s = start' .args in
+    let put-column = back .put-column in
+    let put-column2 = c .before .before .before .before .before .before .before .before .before .before .before .put-column2 in
+    let put-order = c .before .before .before .before .before .before .before .put-order in
+    let part = c .before .before .before .before .part in
+    let put-end = c .before .before .put-end in
+    let l0 = start (s .from) (traceLine (s .k) (s .a) (s .commands .now) (s .out .now)) (s .dst .now) (start' .pre) in
+    let l1 = wrote (numberColumn (s .k)) _ l0 (put-column .ensures) in
+    let l2 = wrote (numberColumn (s .a .number)) _ l1 (put-column2 .ensures) in
+    let l3 = wrote (orderText (s .a .order) (s .commands .now)) _ l2 (put-order .ensures) in
+    ended _ l3 (rw (part .ensures) at (put-end .ensures))
 
 pub put-line-spec : {M : Type 1} → statement M
 put-line-spec =
     tie.close
     (tie.spec
-    decimal-requires
-    slice-aggregate-put
-    put-requires
-    cast-decimal
-    decimal-requires-2
-    slice-aggregate-put-2
-    put-requires-2
+    put-column-requires
+    cast-put-column
+    put-column-requires-2
     put-order-requires
     part-requires
     put-end-requires

@@ -31,22 +31,39 @@ slice-aggregate-put c =
 
 put-requires : tie.Need-put-requires
 put-requires c κs =
-    let s = c .before .before .before .shows .result in
-    fits (take (s .n) (s .letters)) (hex (take (s .len) (drop (s .at) (c .before .before .before .before .before .before .args .commands .now)))) (begins s (c .before .before .before .before .before .before .args .commands .now) (c .before .before .before .shows .ensures .1 (c .before .before .before .before .before .before .args .commands .now)) (c .before .before .before .before .before .before .args .from) (c .before .before .before .before .before .before .args .dst .now) (c .before .before .before .before .before .before .pre))
+    let start = c .before .before .before .before .before .before in
+    let shows = c .before .before .before .shows in
+    let s = shows .result in
+    let m = start .args .commands .now in
+    let l = begins s m (shows .ensures .1 m) (start .args .from) (start .args .dst .now) (start .pre) in
+    fits (take (s .n) (s .letters)) (hex (take (s .len) (drop (s .at) m))) l
 
 part-requires : tie.Need-part-requires
 part-requires c κs = search needs
 
 hex-requires : tie.Need-hex-requires
 hex-requires c κs =
-    rw (c .before .part .ensures) (last-fits (wrote _ _ (begins (c .before .before .before .before .before .before .before .before .shows .result) (c .before .before .before .before .before .before .before .before .before .before .before .args .commands .now) (c .before .before .before .before .before .before .before .before .shows .ensures .1 (c .before .before .before .before .before .before .before .before .before .before .before .args .commands .now)) (c .before .before .before .before .before .before .before .before .before .before .before .args .from) (c .before .before .before .before .before .before .before .before .before .before .before .args .dst .now) (c .before .before .before .before .before .before .before .before .before .before .before .pre)) (c .before .before .before .before .put .ensures)))
+    let start = c .before .before .before .before .before .before .before .before .before .before .before in
+    let shows = c .before .before .before .before .before .before .before .before .shows in
+    let put = c .before .before .before .before .put in
+    let part = c .before .part in
+    let m = start .args .commands .now in
+    let l = begins (shows .result) m (shows .ensures .1 m) (start .args .from) (start .args .dst .now) (start .pre) in
+    rw (part .ensures) (last-fits (wrote _ _ l (put .ensures)))
 
 same-length : tie.Need-same-length
 same-length c = search needs
 
 returns : tie.Need-returns
 returns c =
-    ended _ (wrote _ _ (begins (c .before .before .before .before .before .before .before .before .before .before .before .shows .result) (c .before .before .before .before .before .before .before .before .before .before .before .before .before .before .args .commands .now) (c .before .before .before .before .before .before .before .before .before .before .before .shows .ensures .1 (c .before .before .before .before .before .before .before .before .before .before .before .before .before .before .args .commands .now)) (c .before .before .before .before .before .before .before .before .before .before .before .before .before .before .args .from) (c .before .before .before .before .before .before .before .before .before .before .before .before .before .before .args .dst .now) (c .before .before .before .before .before .before .before .before .before .before .before .before .before .before .pre)) (c .before .before .before .before .before .before .before .put .ensures)) (rw (c .before .before .before .before .part .ensures) at (c .before .before .hex .ensures))
+    let start = c .before .before .before .before .before .before .before .before .before .before .before .before .before .before in
+    let shows = c .before .before .before .before .before .before .before .before .before .before .before .shows in
+    let put = c .before .before .before .before .before .before .before .put in
+    let part = c .before .before .before .before .part in
+    let hex = c .before .before .hex in
+    let m = start .args .commands .now in
+    let l = begins (shows .result) m (shows .ensures .1 m) (start .args .from) (start .args .dst .now) (start .pre) in
+    ended _ (wrote _ _ l (put .ensures)) (rw (part .ensures) at (hex .ensures))
 
 pub put-order-spec : {M : Type 1} → statement M
 put-order-spec =

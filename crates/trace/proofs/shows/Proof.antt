@@ -19,7 +19,9 @@ enum-known-o c = search needs
 returns : tie.Need-returns
 unfolding hex
 returns c =
-    (lit≤ tt, λ m. rw (c .before .before .before .before .o .given .1, c .before .before .if1 .taken) refl)
+    let o = c .before .before .before .before .o in
+    let if1 = c .before .before .if1 in
+    (lit≤ tt, λ m. rw (o .given .1, if1 .taken) refl)
 
 enum-known-o-2 : tie.Need-enum-known-o-2
 enum-known-o-2 c = search needs
@@ -27,7 +29,9 @@ enum-known-o-2 c = search needs
 returns-2 : tie.Need-returns-2
 unfolding hex
 returns-2 c =
-    (lit≤ tt, λ m. rw (c .before .before .before .before .o2 .given .1, c .before .before .if2 .taken) refl)
+    let o2 = c .before .before .before .before .o2 in
+    let if2 = c .before .before .if2 in
+    (lit≤ tt, λ m. rw (o2 .given .1, if2 .taken) refl)
 
 enum-told-3 : tie.Need-enum-told-3
 enum-told-3 c = search needs
@@ -45,12 +49,16 @@ returns-4 c =
 returns-5 : tie.Need-returns-5
 unfolding hex
 returns-5 c =
-    (lit≤ tt, λ m. rw (c .before .before .before .before .o .given .1, c .before .before .if1 .left) refl)
+    let o = c .before .before .before .before .o in
+    let if1 = c .before .before .if1 in
+    (lit≤ tt, λ m. rw (o .given .1, if1 .left) refl)
 
 returns-6 : tie.Need-returns-6
 unfolding hex
 returns-6 c =
-    (lit≤ tt, λ m. rw (c .before .before .before .before .o2 .given .1, c .before .before .if2 .left) refl)
+    let o2 = c .before .before .before .before .o2 in
+    let if2 = c .before .before .if2 in
+    (lit≤ tt, λ m. rw (o2 .given .1, if2 .left) refl)
 
 returns-7 : tie.Need-returns-7
 unfolding hex

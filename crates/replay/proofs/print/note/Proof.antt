@@ -22,11 +22,13 @@ slice-aggregate-event c = search needs
 
 event-requires : tie.Need-event-requires
 event-requires c κs =
-    let m = c .before .before .before .before .before .before .args .commands .now in
-    let o = take 4096 (drop 0 (c .before .before .before .before .before .before .args .out .now)) in
+    let start = c .before .before .before .before .before .before in
+    let part = c .before .part in
+    let m = start .args .commands .now in
+    let o = take 4096 (drop 0 (start .args .out .now)) in
     let h : length m ≤ 4403 = search needs in
     let l : length o ≤ 4096 = rw length-take (omega arith) in
-    rw (c .before .part .ensures) (omega (arith, event-most (c .before .before .before .before .before .before .args .index) (c .before .before .before .before .before .before .args .a) m o h l))
+    rw (part .ensures) (omega (arith, event-most (start .args .index) (start .args .a) m o h l))
 
 slice-aggregate-flush : tie.Need-slice-aggregate-flush
 slice-aggregate-flush c = search needs

@@ -30,11 +30,15 @@ first-requires c κs =
 
 same-length : tie.Need-same-length Inv-loop μ-loop
 same-length c =
-    c .before .before .before .before .loop .inv .long
+    let loop = c .before .before .before .before .loop in
+    loop .inv .long
 
 returns : tie.Need-returns Inv-loop μ-loop
 returns c =
-    ends (c .before .before .before .before .loop .inv) (none _ (rw (c .before .first .ensures, c .before .before .from .ensures) at (c .if1 .taken)))
+    let loop = c .before .before .before .before .loop in
+    let from = c .before .before .from in
+    let first = c .before .first in
+    ends (loop .inv) (none _ (rw (first .ensures, from .ensures) at (c .if1 .taken)))
 
 byte-of-requires : tie.Need-byte-of-requires Inv-loop μ-loop
 byte-of-requires c κs =
@@ -42,19 +46,33 @@ byte-of-requires c κs =
 
 same-length-2 : tie.Need-same-length-2 Inv-loop μ-loop
 same-length-2 c =
-    c .before .before .before .before .before .before .loop .inv .long
+    let loop = c .before .before .before .before .before .before .loop in
+    loop .inv .long
 
 returns-2 : tie.Need-returns-2 Inv-loop μ-loop
 returns-2 c =
-    ends-bad (c .before .before .before .before .before .before .loop .inv) (some _ (rw (c .before .before .before .first .ensures, c .before .before .before .before .from .ensures) at (c .before .before .if1 .left))) (rw (c .before .byte-of .ensures, c .before .before .before .first .ensures, c .before .before .before .before .from .ensures) at (c .if2 .taken))
+    let loop = c .before .before .before .before .before .before .loop in
+    let from = c .before .before .before .before .from in
+    let first = c .before .before .before .first in
+    let if1 = c .before .before .if1 in
+    let byte-of = c .before .byte-of in
+    ends-bad (loop .inv) (some _ (rw (first .ensures, from .ensures) at (if1 .left))) (rw (byte-of .ensures, first .ensures, from .ensures) at (c .if2 .taken))
 
 same-length-3 : tie.Need-same-length-3 Inv-loop μ-loop
 same-length-3 c =
-    c .before .before .before .before .before .before .before .loop .inv .long
+    let loop = c .before .before .before .before .before .before .before .loop in
+    loop .inv .long
 
 returns-3 : tie.Need-returns-3 Inv-loop μ-loop
 returns-3 c =
-    ends-full (c .before .before .before .before .before .before .before .loop .inv) (some _ (rw (c .before .before .before .before .first .ensures, c .before .before .before .before .before .from .ensures) at (c .before .before .before .if1 .left))) (rw (c .before .before .byte-of .ensures, c .before .before .before .before .first .ensures, c .before .before .before .before .before .from .ensures) at (c .before .if2 .left)) (c .if3 .taken)
+    let loop = c .before .before .before .before .before .before .before .loop in
+    let from = c .before .before .before .before .before .from in
+    let first = c .before .before .before .before .first in
+    let if1 = c .before .before .before .if1 in
+    let byte-of = c .before .before .byte-of in
+    let if2 = c .before .if2 in
+    ends-full (loop .inv) (some _ (rw (first .ensures, from .ensures) at (if1 .left)))
+    (rw (byte-of .ensures, first .ensures, from .ensures) at (if2 .left)) (c .if3 .taken)
 
 cast-memory : tie.Need-cast-memory Inv-loop μ-loop
 cast-memory c =
@@ -62,11 +80,13 @@ cast-memory c =
 
 slice-write-memory : tie.Need-slice-write-memory Inv-loop μ-loop
 slice-write-memory c =
-    omega (arith, c .if3 .left, c .before .before .before .before .before .before .before .loop .inv .count, c .before .before .before .before .before .before .before .loop .inv .long)
+    let loop = c .before .before .before .before .before .before .before .loop in
+    omega (arith, c .if3 .left, loop .inv .count, loop .inv .long)
 
 add-n : tie.Need-add-n Inv-loop μ-loop
 add-n c =
-    omega (arith, c .if3 .left, c .before .before .before .before .before .before .before .loop .inv .count, c .before .before .before .before .before .before .before .loop .inv .long)
+    let loop = c .before .before .before .before .before .before .before .loop in
+    omega (arith, c .if3 .left, loop .inv .count, loop .inv .long)
 
 used-requires : tie.Need-used-requires Inv-loop μ-loop
 used-requires c κs =
@@ -74,21 +94,40 @@ used-requires c κs =
 
 add-i : tie.Need-add-i Inv-loop μ-loop
 add-i c =
-    let u = rw (c .before .before .before .before .before .before .from .ensures) at (c .used .ensures) in
-    omega (arith, u, next-within (c .before .before .before .before .before .before .before .before .before .before .before .args .args .now) (c .before .before .before .before .before .before .before .before .loop .i) (c .before .before .before .before .before .before .before .before .loop .inv .within))
+    let start = c .before .before .before .before .before .before .before .before .before .before .before in
+    let loop = c .before .before .before .before .before .before .before .before .loop in
+    let from = c .before .before .before .before .before .before .from in
+    let u = rw (from .ensures) at (c .used .ensures) in
+    omega (arith, u, next-within (start .args .args .now) (loop .i) (loop .inv .within))
 
 loop-less : tie.Need-loop-less Inv-loop μ-loop
 loop-less c =
-    let u = rw (c .before .before .before .before .before .before .from .ensures) at (c .used .ensures) in
-    let h = rw (c .before .before .before .before .before .first .ensures, c .before .before .before .before .before .before .from .ensures) at (c .before .before .before .before .if1 .left) in
-    omega (arith, u, next-within (c .before .before .before .before .before .before .before .before .before .before .before .args .args .now) (c .before .before .before .before .before .before .before .before .loop .i) (c .before .before .before .before .before .before .before .before .loop .inv .within), next-further (c .before .before .before .before .before .before .before .before .before .before .before .args .args .now) (c .before .before .before .before .before .before .before .before .loop .i) h)
+    let start = c .before .before .before .before .before .before .before .before .before .before .before in
+    let loop = c .before .before .before .before .before .before .before .before .loop in
+    let from = c .before .before .before .before .before .before .from in
+    let first = c .before .before .before .before .before .first in
+    let if1 = c .before .before .before .before .if1 in
+    let u = rw (from .ensures) at (c .used .ensures) in
+    let h = rw (first .ensures, from .ensures) at (if1 .left) in
+    omega (arith, u, next-within (start .args .args .now) (loop .i) (loop .inv .within), next-further (start .args .args .now) (loop .i) h)
 
 loop-again : tie.Need-loop-again Inv-loop μ-loop
 loop-again c =
-    let b = c .before .before .before .byte-of .ensures in
-    let h = rw (c .before .before .before .before .before .first .ensures, c .before .before .before .before .before .before .from .ensures) at (c .before .before .before .before .if1 .left) in
-    let g = goes-on (c .before .before .before .before .before .before .before .before .loop .inv) (some _ h) (rw (b, c .before .before .before .before .before .first .ensures, c .before .before .before .before .before .before .from .ensures) at (c .before .before .if2 .left)) (omega (arith, c .before .if3 .left, c .before .before .before .before .before .before .before .before .loop .inv .count, c .before .before .before .before .before .before .before .before .loop .inv .long)) (next-words (c .before .before .before .before .before .before .before .before .before .before .before .args .args .now) (c .before .before .before .before .before .before .before .before .loop .i)) (next-within (c .before .before .before .before .before .before .before .before .before .before .before .args .args .now) (c .before .before .before .before .before .before .before .before .loop .i) (c .before .before .before .before .before .before .before .before .loop .inv .within)) in
-    rw (c .used .ensures, b, c .before .before .before .before .before .first .ensures, c .before .before .before .before .before .before .from .ensures) g
+    let start = c .before .before .before .before .before .before .before .before .before .before .before in
+    let loop = c .before .before .before .before .before .before .before .before .loop in
+    let from = c .before .before .before .before .before .before .from in
+    let first = c .before .before .before .before .before .first in
+    let if1 = c .before .before .before .before .if1 in
+    let byte-of = c .before .before .before .byte-of in
+    let if2 = c .before .before .if2 in
+    let if3 = c .before .if3 in
+    let b = byte-of .ensures in
+    let h = rw (first .ensures, from .ensures) at (if1 .left) in
+    let s = start .args .args .now in
+    let a = rw (b, first .ensures, from .ensures) at (if2 .left) in
+    rw (c .used .ensures, b, first .ensures, from .ensures)
+    (goes-on (loop .inv) (some _ h) a (omega (arith, if3 .left, loop .inv .count, loop .inv .long))
+    (next-words s (loop .i)) (next-within s (loop .i) (loop .inv .within)))
 
 same-length-4 : tie.Need-same-length-4 Inv-loop μ-loop
 same-length-4 c =

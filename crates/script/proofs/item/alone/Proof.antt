@@ -26,7 +26,10 @@ same-requires-2 c κs = search needs
 returns-2 : tie.Need-returns-2
 unfolding nameItem
 returns-2 c =
-    simp (sym (c .before .before .before .before .same .ensures) ∙ c .before .before .before .if1 .left, sym (c .before .same2 .ensures) ∙ c .if2 .taken)
+    let same = c .before .before .before .before .same in
+    let if1 = c .before .before .before .if1 in
+    let same2 = c .before .same2 in
+    simp (sym (same .ensures) ∙ if1 .left, sym (same2 .ensures) ∙ c .if2 .taken)
 
 slice-aggregate-same-3 : tie.Need-slice-aggregate-same-3
 slice-aggregate-same-3 c = search needs
@@ -37,7 +40,12 @@ same-requires-3 c κs = search needs
 returns-3 : tie.Need-returns-3
 unfolding nameItem
 returns-3 c =
-    simp (sym (c .before .before .before .before .before .before .before .same .ensures) ∙ c .before .before .before .before .before .before .if1 .left, sym (c .before .before .before .before .same2 .ensures) ∙ c .before .before .before .if2 .left, sym (c .before .same3 .ensures) ∙ c .if3 .taken)
+    let same = c .before .before .before .before .before .before .before .same in
+    let if1 = c .before .before .before .before .before .before .if1 in
+    let same2 = c .before .before .before .before .same2 in
+    let if2 = c .before .before .before .if2 in
+    let same3 = c .before .same3 in
+    simp (sym (same .ensures) ∙ if1 .left, sym (same2 .ensures) ∙ if2 .left, sym (same3 .ensures) ∙ c .if3 .taken)
 
 slice-aggregate-same-4 : tie.Need-slice-aggregate-same-4
 slice-aggregate-same-4 c = search needs
@@ -48,7 +56,14 @@ same-requires-4 c κs = search needs
 returns-4 : tie.Need-returns-4
 unfolding nameItem
 returns-4 c =
-    simp (sym (c .before .before .before .before .before .before .before .before .before .before .same .ensures) ∙ c .before .before .before .before .before .before .before .before .before .if1 .left, sym (c .before .before .before .before .before .before .before .same2 .ensures) ∙ c .before .before .before .before .before .before .if2 .left, sym (c .before .before .before .before .same3 .ensures) ∙ c .before .before .before .if3 .left, sym (c .before .same4 .ensures) ∙ c .if4 .taken)
+    let same = c .before .before .before .before .before .before .before .before .before .before .same in
+    let if1 = c .before .before .before .before .before .before .before .before .before .if1 in
+    let same2 = c .before .before .before .before .before .before .before .same2 in
+    let if2 = c .before .before .before .before .before .before .if2 in
+    let same3 = c .before .before .before .before .same3 in
+    let if3 = c .before .before .before .if3 in
+    let same4 = c .before .same4 in
+    simp (sym (same .ensures) ∙ if1 .left, sym (same2 .ensures) ∙ if2 .left, sym (same3 .ensures) ∙ if3 .left, sym (same4 .ensures) ∙ c .if4 .taken)
 
 slice-aggregate-same-5 : tie.Need-slice-aggregate-same-5
 slice-aggregate-same-5 c = search needs
@@ -59,7 +74,22 @@ same-requires-5 c κs = search needs
 returns-5 : tie.Need-returns-5
 unfolding nameItem
 returns-5 c =
-    simp (sym (c .before .before .before .before .before .before .before .before .before .before .before .before .before .same .ensures) ∙ c .before .before .before .before .before .before .before .before .before .before .before .before .if1 .left, sym (c .before .before .before .before .before .before .before .before .before .before .same2 .ensures) ∙ c .before .before .before .before .before .before .before .before .before .if2 .left, sym (c .before .before .before .before .before .before .before .same3 .ensures) ∙ c .before .before .before .before .before .before .if3 .left, sym (c .before .before .before .before .same4 .ensures) ∙ c .before .before .before .if4 .left, sym (c .before .same5 .ensures) ∙ c .if5 .taken)
+    let same = c .before .before .before .before .before .before .before .before .before .before .before .before .before .same in
+    let if1 = c .before .before .before .before .before .before .before .before .before .before .before .before .if1 in
+    let same2 = c .before .before .before .before .before .before .before .before .before .before .same2 in
+    let if2 = c .before .before .before .before .before .before .before .before .before .if2 in
+    let same3 = c .before .before .before .before .before .before .before .same3 in
+    let if3 = c .before .before .before .before .before .before .if3 in
+    let same4 = c .before .before .before .before .same4 in
+    let if4 = c .before .before .before .if4 in
+    let same5 = c .before .same5 in
+    simp (
+      sym (same .ensures) ∙ if1 .left,
+      sym (same2 .ensures) ∙ if2 .left,
+      sym (same3 .ensures) ∙ if3 .left,
+      sym (same4 .ensures) ∙ if4 .left,
+      sym (same5 .ensures) ∙ c .if5 .taken,
+    )
 
 slice-aggregate-same-6 : tie.Need-slice-aggregate-same-6
 slice-aggregate-same-6 c = search needs
@@ -70,12 +100,48 @@ same-requires-6 c κs = search needs
 returns-6 : tie.Need-returns-6
 unfolding nameItem
 returns-6 c =
-    simp (sym (c .before .before .before .before .before .before .before .before .before .before .before .before .before .before .before .before .same .ensures) ∙ c .before .before .before .before .before .before .before .before .before .before .before .before .before .before .before .if1 .left, sym (c .before .before .before .before .before .before .before .before .before .before .before .before .before .same2 .ensures) ∙ c .before .before .before .before .before .before .before .before .before .before .before .before .if2 .left, sym (c .before .before .before .before .before .before .before .before .before .before .same3 .ensures) ∙ c .before .before .before .before .before .before .before .before .before .if3 .left, sym (c .before .before .before .before .before .before .before .same4 .ensures) ∙ c .before .before .before .before .before .before .if4 .left, sym (c .before .before .before .before .same5 .ensures) ∙ c .before .before .before .if5 .left, sym (c .before .same6 .ensures) ∙ c .if6 .taken)
+    let same = c .before .before .before .before .before .before .before .before .before .before .before .before .before .before .before .before .same in
+    let if1 = c .before .before .before .before .before .before .before .before .before .before .before .before .before .before .before .if1 in
+    let same2 = c .before .before .before .before .before .before .before .before .before .before .before .before .before .same2 in
+    let if2 = c .before .before .before .before .before .before .before .before .before .before .before .before .if2 in
+    let same3 = c .before .before .before .before .before .before .before .before .before .before .same3 in
+    let if3 = c .before .before .before .before .before .before .before .before .before .if3 in
+    let same4 = c .before .before .before .before .before .before .before .same4 in
+    let if4 = c .before .before .before .before .before .before .if4 in
+    let same5 = c .before .before .before .before .same5 in
+    let if5 = c .before .before .before .if5 in
+    let same6 = c .before .same6 in
+    simp (
+      sym (same .ensures) ∙ if1 .left,
+      sym (same2 .ensures) ∙ if2 .left,
+      sym (same3 .ensures) ∙ if3 .left,
+      sym (same4 .ensures) ∙ if4 .left,
+      sym (same5 .ensures) ∙ if5 .left,
+      sym (same6 .ensures) ∙ c .if6 .taken,
+    )
 
 returns-7 : tie.Need-returns-7
 unfolding nameItem
 returns-7 c =
-    simp (sym (c .before .before .before .before .before .before .before .before .before .before .before .before .before .before .before .before .same .ensures) ∙ c .before .before .before .before .before .before .before .before .before .before .before .before .before .before .before .if1 .left, sym (c .before .before .before .before .before .before .before .before .before .before .before .before .before .same2 .ensures) ∙ c .before .before .before .before .before .before .before .before .before .before .before .before .if2 .left, sym (c .before .before .before .before .before .before .before .before .before .before .same3 .ensures) ∙ c .before .before .before .before .before .before .before .before .before .if3 .left, sym (c .before .before .before .before .before .before .before .same4 .ensures) ∙ c .before .before .before .before .before .before .if4 .left, sym (c .before .before .before .before .same5 .ensures) ∙ c .before .before .before .if5 .left, sym (c .before .same6 .ensures) ∙ c .if6 .left)
+    let same = c .before .before .before .before .before .before .before .before .before .before .before .before .before .before .before .before .same in
+    let if1 = c .before .before .before .before .before .before .before .before .before .before .before .before .before .before .before .if1 in
+    let same2 = c .before .before .before .before .before .before .before .before .before .before .before .before .before .same2 in
+    let if2 = c .before .before .before .before .before .before .before .before .before .before .before .before .if2 in
+    let same3 = c .before .before .before .before .before .before .before .before .before .before .same3 in
+    let if3 = c .before .before .before .before .before .before .before .before .before .if3 in
+    let same4 = c .before .before .before .before .before .before .before .same4 in
+    let if4 = c .before .before .before .before .before .before .if4 in
+    let same5 = c .before .before .before .before .same5 in
+    let if5 = c .before .before .before .if5 in
+    let same6 = c .before .same6 in
+    simp (
+      sym (same .ensures) ∙ if1 .left,
+      sym (same2 .ensures) ∙ if2 .left,
+      sym (same3 .ensures) ∙ if3 .left,
+      sym (same4 .ensures) ∙ if4 .left,
+      sym (same5 .ensures) ∙ if5 .left,
+      sym (same6 .ensures) ∙ c .if6 .left,
+    )
 
 pub alone-spec : {M : Type 1} → statement M
 alone-spec =

@@ -21,21 +21,26 @@ same-length c = search needs
 
 returns : tie.Need-returns
 returns c =
-    (sym (ap bytes (sym (c .before .before .before .before .all-bytes .ensures .0) ∙ c .enum-told .given .1)), c .before .before .before .before .all-bytes .ensures .1)
+    let all-bytes = c .before .before .before .before .all-bytes in
+    (sym (ap bytes (sym (all-bytes .ensures .0) ∙ c .enum-told .given .1)), all-bytes .ensures .1)
 
 same-length-2 : tie.Need-same-length-2
 same-length-2 c = search needs
 
 returns-2 : tie.Need-returns-2
 returns-2 c =
-    (sym (ap bytes (sym (c .before .before .before .before .before .before .all-bytes .ensures .0) ∙ c .before .before .n .given .1) ∙ bytes-none _ (c .if1 .taken)), c .before .before .before .before .before .before .all-bytes .ensures .1)
+    let all-bytes = c .before .before .before .before .before .before .all-bytes in
+    let n = c .before .before .n in
+    (sym (ap bytes (sym (all-bytes .ensures .0) ∙ n .given .1) ∙ bytes-none _ (c .if1 .taken)), all-bytes .ensures .1)
 
 same-length-3 : tie.Need-same-length-3
 same-length-3 c = search needs
 
 returns-3 : tie.Need-returns-3
 returns-3 c =
-    (sym (ap bytes (sym (c .before .before .before .before .before .before .all-bytes .ensures .0) ∙ c .before .before .n .given .1) ∙ bytes-some _ (c .if1 .left)), c .before .before .before .before .before .before .all-bytes .ensures .1)
+    let all-bytes = c .before .before .before .before .before .before .all-bytes in
+    let n = c .before .before .n in
+    (sym (ap bytes (sym (all-bytes .ensures .0) ∙ n .given .1) ∙ bytes-some _ (c .if1 .left)), all-bytes .ensures .1)
 
 pub byte-spec : {M : Type 1} → statement M
 byte-spec =

@@ -36,7 +36,26 @@ head-of-requires c κs = search needs
 
 returns : tie.Need-returns
 returns c =
-    rw (c .before .before .before .before .before .first .ensures, c .before .before .before .before .first2 .ensures, c .before .before .before .first3 .ensures, c .before .before .first4 .ensures, c .before .first5 .ensures, c .before .before .before .before .before .before .rest4 .ensures, c .before .before .before .before .before .before .before .rest3 .ensures, c .before .before .before .before .before .before .before .before .rest2 .ensures, c .before .before .before .before .before .before .before .before .before .rest .ensures) at (c .head-of .ensures)
+    let rest = c .before .before .before .before .before .before .before .before .before .rest in
+    let rest2 = c .before .before .before .before .before .before .before .before .rest2 in
+    let rest3 = c .before .before .before .before .before .before .before .rest3 in
+    let rest4 = c .before .before .before .before .before .before .rest4 in
+    let first = c .before .before .before .before .before .first in
+    let first2 = c .before .before .before .before .first2 in
+    let first3 = c .before .before .before .first3 in
+    let first4 = c .before .before .first4 in
+    let first5 = c .before .first5 in
+    rw (
+      first .ensures,
+      first2 .ensures,
+      first3 .ensures,
+      first4 .ensures,
+      first5 .ensures,
+      rest4 .ensures,
+      rest3 .ensures,
+      rest2 .ensures,
+      rest .ensures,
+    ) at (c .head-of .ensures)
 
 pub head-in-spec : {M : Type 1} → statement M
 head-in-spec =

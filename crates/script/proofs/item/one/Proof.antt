@@ -23,7 +23,11 @@ decimal-requires c κs = search needs
 
 returns-2 : tie.Need-returns-2
 returns-2 c =
-    simp (rw (c .before .before .before .rest .ensures) at (sym (c .before .before .is-more .ensures) ∙ c .before .if1 .left)) (rw (c .before .before .before .before .first .ensures) at (c .decimal .ensures))
+    let first = c .before .before .before .before .first in
+    let rest = c .before .before .before .rest in
+    let is-more = c .before .before .is-more in
+    let if1 = c .before .if1 in
+    simp (rw (rest .ensures) at (sym (is-more .ensures) ∙ if1 .left)) (rw (first .ensures) at (c .decimal .ensures))
 
 pub one-spec : {M : Type 1} → statement M
 one-spec =

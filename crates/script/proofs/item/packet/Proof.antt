@@ -37,21 +37,30 @@ same-length c = search needs
 
 returns-2 : tie.Need-returns-2
 returns-2 c =
-    let h = sym (c .before .before .before .before .before .before .before .before .before .head-in .ensures) ∙ c .before .before .before .before .before .before .before .enum-told .given .1 in
-    let n = rw (c .before .before .before .before .before .before .tail-in .ensures) at (sym (c .before .before .before .before .all-bytes .ensures .0)) ∙ c .enum-told3 .given .1 in
-    (simp (h, n), simp h (rw (c .before .before .before .before .before .before .tail-in .ensures) at (c .before .before .before .before .all-bytes .ensures .1)))
+    let head-in = c .before .before .before .before .before .before .before .before .before .head-in in
+    let enum-told = c .before .before .before .before .before .before .before .enum-told in
+    let tail-in = c .before .before .before .before .before .before .tail-in in
+    let all-bytes = c .before .before .before .before .all-bytes in
+    let h = sym (head-in .ensures) ∙ enum-told .given .1 in
+    let n = rw (tail-in .ensures) at (sym (all-bytes .ensures .0)) ∙ c .enum-told3 .given .1 in
+    (simp (h, n), simp h (rw (tail-in .ensures) at (all-bytes .ensures .1)))
 
-heard-requires : tie.Need-heard-requires
-heard-requires c κs = search needs
+received-requires : tie.Need-received-requires
+received-requires c κs = search needs
 
 same-length-2 : tie.Need-same-length-2
 same-length-2 c = search needs
 
 returns-3 : tie.Need-returns-3
 returns-3 c =
-    let h = sym (c .before .before .before .before .before .before .before .before .before .before .before .head-in .ensures) ∙ c .before .before .before .before .before .before .before .before .before .enum-told .given .1 in
-    let n = rw (c .before .before .before .before .before .before .before .before .tail-in .ensures) at (sym (c .before .before .before .before .before .before .all-bytes .ensures .0)) ∙ c .before .before .len .given .1 in
-    (rw n (rw (c .before .before .before .before .before .before .before .before .before .before .before .head-in .ensures) at (c .heard .ensures)), simp h (rw (c .before .before .before .before .before .before .before .before .tail-in .ensures) at (c .before .before .before .before .before .before .all-bytes .ensures .1)))
+    let head-in = c .before .before .before .before .before .before .before .before .before .before .before .head-in in
+    let enum-told = c .before .before .before .before .before .before .before .before .before .enum-told in
+    let tail-in = c .before .before .before .before .before .before .before .before .tail-in in
+    let all-bytes = c .before .before .before .before .before .before .all-bytes in
+    let len = c .before .before .len in
+    let h = sym (head-in .ensures) ∙ enum-told .given .1 in
+    let n = rw (tail-in .ensures) at (sym (all-bytes .ensures .0)) ∙ len .given .1 in
+    (rw n (rw (head-in .ensures) at (c .received .ensures)), simp h (rw (tail-in .ensures) at (all-bytes .ensures .1)))
 
 pub packet-spec : {M : Type 1} → statement M
 packet-spec =
@@ -67,6 +76,6 @@ packet-spec =
     enum-told-3
     same-length
     returns-2
-    heard-requires
+    received-requires
     same-length-2
     returns-3)

@@ -32,7 +32,11 @@ sent-requires c κs = search needs
 returns-2 : tie.Need-returns-2
 unfolding plainItem
 returns-2 c =
-    simp (sym (c .before .before .before .before .before .same .ensures) ∙ c .before .before .before .before .if1 .left, sym (c .before .before .same2 .ensures) ∙ c .before .if2 .taken) (c .sent .ensures)
+    let same = c .before .before .before .before .before .same in
+    let if1 = c .before .before .before .before .if1 in
+    let same2 = c .before .before .same2 in
+    let if2 = c .before .if2 in
+    simp (sym (same .ensures) ∙ if1 .left, sym (same2 .ensures) ∙ if2 .taken) (c .sent .ensures)
 
 slice-aggregate-same-3 : tie.Need-slice-aggregate-same-3
 slice-aggregate-same-3 c = search needs
@@ -46,7 +50,13 @@ room-requires c κs = search needs
 returns-3 : tie.Need-returns-3
 unfolding plainItem
 returns-3 c =
-    simp (sym (c .before .before .before .before .before .before .before .before .same .ensures) ∙ c .before .before .before .before .before .before .before .if1 .left, sym (c .before .before .before .before .before .same2 .ensures) ∙ c .before .before .before .before .if2 .left, sym (c .before .before .same3 .ensures) ∙ c .before .if3 .taken) (c .room .ensures)
+    let same = c .before .before .before .before .before .before .before .before .same in
+    let if1 = c .before .before .before .before .before .before .before .if1 in
+    let same2 = c .before .before .before .before .before .same2 in
+    let if2 = c .before .before .before .before .if2 in
+    let same3 = c .before .before .same3 in
+    let if3 = c .before .if3 in
+    simp (sym (same .ensures) ∙ if1 .left, sym (same2 .ensures) ∙ if2 .left, sym (same3 .ensures) ∙ if3 .taken) (c .room .ensures)
 
 is-more-requires : tie.Need-is-more-requires
 is-more-requires c κs = search needs
@@ -54,7 +64,14 @@ is-more-requires c κs = search needs
 returns-4 : tie.Need-returns-4
 unfolding plainItem
 returns-4 c =
-    simp (sym (c .before .before .before .before .before .before .before .before .before .same .ensures) ∙ c .before .before .before .before .before .before .before .before .if1 .left, sym (c .before .before .before .before .before .before .same2 .ensures) ∙ c .before .before .before .before .before .if2 .left, sym (c .before .before .before .same3 .ensures) ∙ c .before .before .if3 .left, sym (c .before .is-more .ensures) ∙ c .if4 .taken)
+    let same = c .before .before .before .before .before .before .before .before .before .same in
+    let if1 = c .before .before .before .before .before .before .before .before .if1 in
+    let same2 = c .before .before .before .before .before .before .same2 in
+    let if2 = c .before .before .before .before .before .if2 in
+    let same3 = c .before .before .before .same3 in
+    let if3 = c .before .before .if3 in
+    let is-more = c .before .is-more in
+    simp (sym (same .ensures) ∙ if1 .left, sym (same2 .ensures) ∙ if2 .left, sym (same3 .ensures) ∙ if3 .left, sym (is-more .ensures) ∙ c .if4 .taken)
 
 alone-requires : tie.Need-alone-requires
 alone-requires c κs = search needs
@@ -62,7 +79,20 @@ alone-requires c κs = search needs
 returns-5 : tie.Need-returns-5
 unfolding plainItem
 returns-5 c =
-    simp (sym (c .before .before .before .before .before .before .before .before .before .before .same .ensures) ∙ c .before .before .before .before .before .before .before .before .before .if1 .left, sym (c .before .before .before .before .before .before .before .same2 .ensures) ∙ c .before .before .before .before .before .before .if2 .left, sym (c .before .before .before .before .same3 .ensures) ∙ c .before .before .before .if3 .left, sym (c .before .before .is-more .ensures) ∙ c .before .if4 .left) (c .alone .ensures)
+    let same = c .before .before .before .before .before .before .before .before .before .before .same in
+    let if1 = c .before .before .before .before .before .before .before .before .before .if1 in
+    let same2 = c .before .before .before .before .before .before .before .same2 in
+    let if2 = c .before .before .before .before .before .before .if2 in
+    let same3 = c .before .before .before .before .same3 in
+    let if3 = c .before .before .before .if3 in
+    let is-more = c .before .before .is-more in
+    let if4 = c .before .if4 in
+    simp (
+      sym (same .ensures) ∙ if1 .left,
+      sym (same2 .ensures) ∙ if2 .left,
+      sym (same3 .ensures) ∙ if3 .left,
+      sym (is-more .ensures) ∙ if4 .left,
+    ) (c .alone .ensures)
 
 pub plain-spec : {M : Type 1} → statement M
 plain-spec =

@@ -7,22 +7,25 @@ use lib.ListN.{length}
 use Prim.Native.Nat.{ℕ, suc, _-_}
 use Rattle.buffer.specs.Lay.{lay}
 use Rattle.buffer.proofs.Laws.{lay-none}
-use Rattle.script.proofs.Items.{bare-return, bare-other, is-comment, no-comment, empty-line}
+use Rattle.script.proofs.Items.{return-left-out, no-return, is-comment, no-comment, empty-line}
 use borrow.Author.Needs.{needs}
 use Rattle.script.proofs.item.read.Statement.{statement}
 use Rattle.script.proofs.item.read.Tie as tie
 
 returns : tie.Need-returns
 returns c =
-    let l = empty-line (length (c .before .before .before .args .memory .now)) (c .before .before .before .args .line .now) (c .if1 .taken) in
-    (sym (l .0), sym (ap (λ (m : List ℕ). lay 0 m (c .before .before .before .args .memory .now)) (l .1) ∙ lay-none 0 _))
+    let start = c .before .before .before in
+    let l = empty-line (length (start .args .memory .now)) (start .args .line .now) (c .if1 .taken) in
+    (sym (l .0), sym (ap (λ (m : List ℕ). lay 0 m (start .args .memory .now)) (l .1) ∙ lay-none 0 _))
 
 shared-slice-read-if2 : tie.Need-shared-slice-read-if2
 shared-slice-read-if2 c = search needs
 
 returns-2 : tie.Need-returns-2
 returns-2 c =
-    let e = is-comment (c .before .before .before .before .before .args .line .now) (c .before .before .if1 .left) (c .if2 .taken) in
+    let start = c .before .before .before .before .before in
+    let if1 = c .before .before .if1 in
+    let e = is-comment (start .args .line .now) (if1 .left) (c .if2 .taken) in
     (simp e, simp e (sym (lay-none 0 _)))
 
 sub-if3 : tie.Need-sub-if3
@@ -45,11 +48,17 @@ same-length c = search needs
 
 returns-3 : tie.Need-returns-3
 returns-3 c =
-    let s = c .before .before .before .before .before .before .before .before .before .before .before .before .args .line .now in
-    let h : length s ≡ suc (length s - 1) = omega (arith, c .before .before .before .before .before .before .before .before .before .if1 .left) in
-    let e = no-comment s (c .before .before .before .before .before .before .before .if2 .left) in
-    let b = bare-return s _ h (c .before .before .before .before .before .if3 .taken) in
-    (simp (e, b) (rw (c .before .before .before .before .part .ensures) at (c .before .before .read-words .ensures .0)), simp (e, b) (rw (c .before .before .before .before .part .ensures) at (c .before .before .read-words .ensures .1)))
+    let start = c .before .before .before .before .before .before .before .before .before .before .before .before in
+    let if1 = c .before .before .before .before .before .before .before .before .before .if1 in
+    let if2 = c .before .before .before .before .before .before .before .if2 in
+    let if3 = c .before .before .before .before .before .if3 in
+    let part = c .before .before .before .before .part in
+    let read-words = c .before .before .read-words in
+    let s = start .args .line .now in
+    let h : length s ≡ suc (length s - 1) = omega (arith, if1 .left) in
+    let e = no-comment s (if2 .left) in
+    let b = return-left-out s _ h (if3 .taken) in
+    (simp (e, b) (rw (part .ensures) at (read-words .ensures .0)), simp (e, b) (rw (part .ensures) at (read-words .ensures .1)))
 
 read-words-requires-2 : tie.Need-read-words-requires-2
 read-words-requires-2 c κs = search needs
@@ -59,11 +68,16 @@ same-length-2 c = search needs
 
 returns-4 : tie.Need-returns-4
 returns-4 c =
-    let s = c .before .before .before .before .before .before .before .before .before .before .before .args .line .now in
-    let h : length s ≡ suc (length s - 1) = omega (arith, c .before .before .before .before .before .before .before .before .if1 .left) in
-    let e = no-comment s (c .before .before .before .before .before .before .if2 .left) in
-    let b = bare-other s _ h (c .before .before .before .before .if3 .left) in
-    (simp (e, b) (c .before .before .read-words2 .ensures .0), simp (e, b) (c .before .before .read-words2 .ensures .1))
+    let start = c .before .before .before .before .before .before .before .before .before .before .before in
+    let if1 = c .before .before .before .before .before .before .before .before .if1 in
+    let if2 = c .before .before .before .before .before .before .if2 in
+    let if3 = c .before .before .before .before .if3 in
+    let read-words2 = c .before .before .read-words2 in
+    let s = start .args .line .now in
+    let h : length s ≡ suc (length s - 1) = omega (arith, if1 .left) in
+    let e = no-comment s (if2 .left) in
+    let b = no-return s _ h (if3 .left) in
+    (simp (e, b) (read-words2 .ensures .0), simp (e, b) (read-words2 .ensures .1))
 
 pub read-spec : {M : Type 1} → statement M
 read-spec =

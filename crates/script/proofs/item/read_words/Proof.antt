@@ -21,11 +21,13 @@ rest-requires c κs = search needs
 
 returns : tie.Need-returns
 returns c =
-    let room = length (c .before .before .before .before .before .args .memory .now) in
-    let ws = words (c .before .before .before .before .before .args .line .now) in
-    let e = none _ (rw (c .before .before .first .ensures) at (c .if1 .taken)) in
+    let start = c .before .before .before .before .before in
+    let first = c .before .before .first in
+    let room = length (start .args .memory .now) in
+    let ws = words (start .args .line .now) in
+    let e = none _ (rw (first .ensures) at (c .if1 .taken)) in
     let l = line-none room ws e in
-    (sym (l .0), sym (ap (λ (m : List ℕ). lay 0 m (c .before .before .before .before .before .args .memory .now)) (l .1) ∙ lay-none 0 _))
+    (sym (l .0), sym (ap (λ (m : List ℕ). lay 0 m (start .args .memory .now)) (l .1) ∙ lay-none 0 _))
 
 slice-aggregate-same : tie.Need-slice-aggregate-same
 slice-aggregate-same c = search needs
@@ -41,11 +43,20 @@ same-length c = search needs
 
 returns-2 : tie.Need-returns-2
 returns-2 c =
-    let room = length (c .before .before .before .before .before .before .before .before .before .before .before .before .args .memory .now) in
-    let ws = words (c .before .before .before .before .before .before .before .before .before .before .before .before .args .line .now) in
-    let h = rw (c .before .before .before .before .before .before .before .before .before .first .ensures) at (c .before .before .before .before .before .before .before .if1 .left) in
-    let l = line-byte room ws h (rw (c .before .before .before .before .before .before .before .before .before .first .ensures) at (sym (c .before .before .before .before .before .same .ensures) ∙ c .before .before .before .before .if2 .taken)) in
-    (rw (c .before .before .before .before .before .before .before .before .rest .ensures) at (c .before .before .byte .ensures .0) ∙ sym (l .0), rw (c .before .before .before .before .before .before .before .before .rest .ensures) at (c .before .before .byte .ensures .1) ∙ sym (ap (λ (m : List ℕ). lay 0 m (c .before .before .before .before .before .before .before .before .before .before .before .before .args .memory .now)) (l .1)))
+    let start = c .before .before .before .before .before .before .before .before .before .before .before .before in
+    let first = c .before .before .before .before .before .before .before .before .before .first in
+    let rest = c .before .before .before .before .before .before .before .before .rest in
+    let if1 = c .before .before .before .before .before .before .before .if1 in
+    let same = c .before .before .before .before .before .same in
+    let if2 = c .before .before .before .before .if2 in
+    let byte = c .before .before .byte in
+    let room = length (start .args .memory .now) in
+    let ws = words (start .args .line .now) in
+    let h = rw (first .ensures) at (if1 .left) in
+    let l = line-byte room ws h (rw (first .ensures) at (sym (same .ensures) ∙ if2 .taken)) in (
+      rw (rest .ensures) at (byte .ensures .0) ∙ sym (l .0),
+      rw (rest .ensures) at (byte .ensures .1) ∙ sym (ap (λ (m : List ℕ). lay 0 m (start .args .memory .now)) (l .1)),
+    )
 
 slice-aggregate-same-2 : tie.Need-slice-aggregate-same-2
 slice-aggregate-same-2 c = search needs
@@ -61,23 +72,44 @@ same-length-2 c = search needs
 
 returns-3 : tie.Need-returns-3
 returns-3 c =
-    let room = length (c .before .before .before .before .before .before .before .before .before .before .before .before .before .before .before .args .memory .now) in
-    let ws = words (c .before .before .before .before .before .before .before .before .before .before .before .before .before .before .before .args .line .now) in
-    let h = rw (c .before .before .before .before .before .before .before .before .before .before .before .before .first .ensures) at (c .before .before .before .before .before .before .before .before .before .before .if1 .left) in
-    let l = line-packet room ws h (rw (c .before .before .before .before .before .before .before .before .before .before .before .before .first .ensures) at (sym (c .before .before .before .before .before .before .before .before .same .ensures) ∙ c .before .before .before .before .before .before .before .if2 .left)) (rw (c .before .before .before .before .before .before .before .before .before .before .before .before .first .ensures) at (sym (c .before .before .before .before .before .same2 .ensures) ∙ c .before .before .before .before .if3 .taken)) in
-    (rw (c .before .before .before .before .before .before .before .before .before .before .before .rest .ensures) at (c .before .before .packet .ensures .0) ∙ sym (l .0), rw (c .before .before .before .before .before .before .before .before .before .before .before .rest .ensures) at (c .before .before .packet .ensures .1) ∙ sym (ap (λ (m : List ℕ). lay 0 m (c .before .before .before .before .before .before .before .before .before .before .before .before .before .before .before .args .memory .now)) (l .1)))
+    let start = c .before .before .before .before .before .before .before .before .before .before .before .before .before .before .before in
+    let first = c .before .before .before .before .before .before .before .before .before .before .before .before .first in
+    let rest = c .before .before .before .before .before .before .before .before .before .before .before .rest in
+    let if1 = c .before .before .before .before .before .before .before .before .before .before .if1 in
+    let same = c .before .before .before .before .before .before .before .before .same in
+    let if2 = c .before .before .before .before .before .before .before .if2 in
+    let same2 = c .before .before .before .before .before .same2 in
+    let if3 = c .before .before .before .before .if3 in
+    let packet = c .before .before .packet in
+    let room = length (start .args .memory .now) in
+    let ws = words (start .args .line .now) in
+    let h = rw (first .ensures) at (if1 .left) in
+    let l = line-packet room ws h (rw (first .ensures) at (sym (same .ensures) ∙ if2 .left)) (rw (first .ensures) at (sym (same2 .ensures) ∙ if3 .taken)) in (
+      rw (rest .ensures) at (packet .ensures .0) ∙ sym (l .0),
+      rw (rest .ensures) at (packet .ensures .1) ∙ sym (ap (λ (m : List ℕ). lay 0 m (start .args .memory .now)) (l .1)),
+    )
 
 plain-requires : tie.Need-plain-requires
 plain-requires c κs = search needs
 
 returns-4 : tie.Need-returns-4
 returns-4 c =
-    let room = length (c .before .before .before .before .before .before .before .before .before .before .before .before .args .memory .now) in
-    let ws = words (c .before .before .before .before .before .before .before .before .before .before .before .before .args .line .now) in
-    let h = rw (c .before .before .before .before .before .before .before .before .before .first .ensures) at (c .before .before .before .before .before .before .before .if1 .left) in
-    let b = rw (c .before .before .before .before .before .before .before .before .before .first .ensures) at (sym (c .before .before .before .before .before .same .ensures) ∙ c .before .before .before .before .if2 .left) in
-    let p = rw (c .before .before .before .before .before .before .before .before .before .first .ensures) at (sym (c .before .before .same2 .ensures) ∙ c .before .if3 .left) in
-    (rw (c .before .before .before .before .before .before .before .before .before .first .ensures, c .before .before .before .before .before .before .before .before .rest .ensures) at (c .plain .ensures) ∙ sym (line-plain room ws h b p), sym (ap (λ (m : List ℕ). lay 0 m (c .before .before .before .before .before .before .before .before .before .before .before .before .args .memory .now)) (line-without room ws h b p) ∙ lay-none 0 _))
+    let start = c .before .before .before .before .before .before .before .before .before .before .before .before in
+    let first = c .before .before .before .before .before .before .before .before .before .first in
+    let rest = c .before .before .before .before .before .before .before .before .rest in
+    let if1 = c .before .before .before .before .before .before .before .if1 in
+    let same = c .before .before .before .before .before .same in
+    let if2 = c .before .before .before .before .if2 in
+    let same2 = c .before .before .same2 in
+    let if3 = c .before .if3 in
+    let room = length (start .args .memory .now) in
+    let ws = words (start .args .line .now) in
+    let h = rw (first .ensures) at (if1 .left) in
+    let b = rw (first .ensures) at (sym (same .ensures) ∙ if2 .left) in
+    let p = rw (first .ensures) at (sym (same2 .ensures) ∙ if3 .left) in (
+      rw (first .ensures, rest .ensures) at (c .plain .ensures) ∙ sym (line-plain room ws h b p),
+      sym (ap (λ (m : List ℕ). lay 0 m (start .args .memory .now)) (line-without room ws h b p) ∙ lay-none 0 _),
+    )
 
 pub read-words-spec : {M : Type 1} → statement M
 read-words-spec =

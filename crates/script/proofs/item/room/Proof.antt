@@ -21,7 +21,9 @@ returns c =
 
 returns-2 : tie.Need-returns-2
 returns-2 c =
-    sym (ap rooms (sym (c .before .before .before .one .ensures) ∙ c .before .n .given .1))
+    let one = c .before .before .before .one in
+    let n = c .before .n in
+    sym (ap rooms (sym (one .ensures) ∙ n .given .1))
 
 pub room-spec : {M : Type 1} → statement M
 room-spec = tie.close (tie.spec one-requires enum-known-n enum-told returns returns-2)

@@ -24,11 +24,16 @@ returns c =
 
 cast-t4 : tie.Need-cast-t4
 cast-t4 c =
-    omega (arith, one-within _ (words (c .before .before .before .before .before .args .args .now)) (c .before .n .given .0 .0) (sym (c .before .before .before .one .ensures) ∙ c .before .n .given .1))
+    let start = c .before .before .before .before .before in
+    let one = c .before .before .before .one in
+    let n = c .before .n in
+    omega (arith, one-within _ (words (start .args .args .now)) (n .given .0 .0) (sym (one .ensures) ∙ n .given .1))
 
 returns-2 : tie.Need-returns-2
 returns-2 c =
-    sym (ap sents (sym (c .before .before .before .one .ensures) ∙ c .before .n .given .1))
+    let one = c .before .before .before .one in
+    let n = c .before .n in
+    sym (ap sents (sym (one .ensures) ∙ n .given .1))
 
 pub sent-spec : {M : Type 1} → statement M
 sent-spec = tie.close (tie.spec one-requires enum-known-n enum-told returns cast-t4 returns-2)

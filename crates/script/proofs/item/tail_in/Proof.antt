@@ -21,7 +21,11 @@ rest-requires-5 c κs = search needs
 
 returns : tie.Need-returns
 returns c =
-    rw (c .before .rest4 .ensures, c .before .before .rest3 .ensures, c .before .before .before .rest2 .ensures, c .before .before .before .before .rest .ensures) at (c .rest5 .ensures)
+    let rest = c .before .before .before .before .rest in
+    let rest2 = c .before .before .before .rest2 in
+    let rest3 = c .before .before .rest3 in
+    let rest4 = c .before .rest4 in
+    rw (rest4 .ensures, rest3 .ensures, rest2 .ensures, rest .ensures) at (c .rest5 .ensures)
 
 pub tail-in-spec : {M : Type 1} → statement M
 tail-in-spec =

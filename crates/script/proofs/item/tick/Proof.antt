@@ -25,11 +25,18 @@ enum-told c = search needs
 
 returns-2 : tie.Need-returns-2
 returns-2 c =
-    simp (sym (c .before .before .before .before .is-more .ensures) ∙ not-false _ (c .before .before .before .if1 .left)) (sym (ap ticks (sym (c .before .before .one .ensures) ∙ c .enum-told .given .1)))
+    let is-more = c .before .before .before .before .is-more in
+    let if1 = c .before .before .before .if1 in
+    let one = c .before .before .one in
+    simp (sym (is-more .ensures) ∙ not-false _ (if1 .left)) (sym (ap ticks (sym (one .ensures) ∙ c .enum-told .given .1)))
 
 returns-3 : tie.Need-returns-3
 returns-3 c =
-    simp (sym (c .before .before .before .before .before .is-more .ensures) ∙ not-false _ (c .before .before .before .before .if1 .left)) (sym (ap ticks (sym (c .before .before .before .one .ensures) ∙ c .before .n .given .1)))
+    let is-more = c .before .before .before .before .before .is-more in
+    let if1 = c .before .before .before .before .if1 in
+    let one = c .before .before .before .one in
+    let n = c .before .n in
+    simp (sym (is-more .ensures) ∙ not-false _ (if1 .left)) (sym (ap ticks (sym (one .ensures) ∙ n .given .1)))
 
 pub tick-spec : {M : Type 1} → statement M
 tick-spec =

@@ -19,7 +19,10 @@ nibble-requires c κs = search needs
 
 returns-2 : tie.Need-returns-2
 returns-2 c =
-    sym (byte-two (c .before .before .before .before .before .args .word .now) (c .before .before .before .if1 .left) ∙ rw (← c .before .nibble .ensures) (simp (lt-ltb _ _ (c .if2 .taken))))
+    let start = c .before .before .before .before .before in
+    let if1 = c .before .before .before .if1 in
+    let nibble = c .before .nibble in
+    sym (byte-two (start .args .word .now) (if1 .left) ∙ rw (← nibble .ensures) (simp (lt-ltb _ _ (c .if2 .taken))))
 
 shared-slice-read-nibble-2 : tie.Need-shared-slice-read-nibble-2
 shared-slice-read-nibble-2 c = search needs
@@ -29,7 +32,12 @@ nibble-requires-2 c κs = search needs
 
 returns-3 : tie.Need-returns-3
 returns-3 c =
-    sym (byte-two (c .before .before .before .before .before .before .before .before .args .word .now) (c .before .before .before .before .before .before .if1 .left) ∙ rw (← c .before .before .before .before .nibble .ensures, ← c .before .nibble2 .ensures) (simp (le-ltb _ _ (c .before .before .before .if2 .left), lt-ltb _ _ (c .if3 .taken))))
+    let start = c .before .before .before .before .before .before .before .before in
+    let if1 = c .before .before .before .before .before .before .if1 in
+    let nibble = c .before .before .before .before .nibble in
+    let if2 = c .before .before .before .if2 in
+    let nibble2 = c .before .nibble2 in
+    sym (byte-two (start .args .word .now) (if1 .left) ∙ rw (← nibble .ensures, ← nibble2 .ensures) (simp (le-ltb _ _ (if2 .left), lt-ltb _ _ (c .if3 .taken))))
 
 mul-result : tie.Need-mul-result
 mul-result c = search needs
@@ -39,7 +47,12 @@ add-result c = search needs
 
 returns-4 : tie.Need-returns-4
 returns-4 c =
-    sym (byte-two (c .before .before .before .before .before .before .before .before .args .word .now) (c .before .before .before .before .before .before .if1 .left) ∙ rw (← c .before .before .before .before .nibble .ensures, ← c .before .nibble2 .ensures) (simp (le-ltb _ _ (c .before .before .before .if2 .left), le-ltb _ _ (c .if3 .left))))
+    let start = c .before .before .before .before .before .before .before .before in
+    let if1 = c .before .before .before .before .before .before .if1 in
+    let nibble = c .before .before .before .before .nibble in
+    let if2 = c .before .before .before .if2 in
+    let nibble2 = c .before .nibble2 in
+    sym (byte-two (start .args .word .now) (if1 .left) ∙ rw (← nibble .ensures, ← nibble2 .ensures) (simp (le-ltb _ _ (if2 .left), le-ltb _ _ (c .if3 .left))))
 
 pub byte-of-spec : {M : Type 1} → statement M
 byte-of-spec =

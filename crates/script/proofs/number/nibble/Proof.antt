@@ -26,7 +26,9 @@ is-within-requires-2 c κs = search needs
 
 sub-result-2 : tie.Need-sub-result-2
 sub-result-2 c =
-    omega (arith, within-from _ _ (c .before .before .before .before .args .c) (sym (c .before .is-within2 .ensures) ∙ c .if2 .taken))
+    let start = c .before .before .before .before in
+    let is-within2 = c .before .is-within2 in
+    omega (arith, within-from _ _ (start .args .c) (sym (is-within2 .ensures) ∙ c .if2 .taken))
 
 add-result : tie.Need-add-result
 add-result c = search needs
@@ -36,14 +38,19 @@ cast-result-2 c = search needs
 
 returns-2 : tie.Need-returns-2
 returns-2 c =
-    simp (sym (c .before .before .before .is-within .ensures) ∙ c .before .before .if1 .left, sym (c .before .is-within2 .ensures) ∙ c .if2 .taken)
+    let is-within = c .before .before .before .is-within in
+    let if1 = c .before .before .if1 in
+    let is-within2 = c .before .is-within2 in
+    simp (sym (is-within .ensures) ∙ if1 .left, sym (is-within2 .ensures) ∙ c .if2 .taken)
 
 is-within-requires-3 : tie.Need-is-within-requires-3
 is-within-requires-3 c κs = search needs
 
 sub-result-3 : tie.Need-sub-result-3
 sub-result-3 c =
-    omega (arith, within-from _ _ (c .before .before .before .before .before .before .args .c) (sym (c .before .is-within3 .ensures) ∙ c .if3 .taken))
+    let start = c .before .before .before .before .before .before in
+    let is-within3 = c .before .is-within3 in
+    omega (arith, within-from _ _ (start .args .c) (sym (is-within3 .ensures) ∙ c .if3 .taken))
 
 add-result-2 : tie.Need-add-result-2
 add-result-2 c = search needs
@@ -53,11 +60,21 @@ cast-result-3 c = search needs
 
 returns-3 : tie.Need-returns-3
 returns-3 c =
-    simp (sym (c .before .before .before .before .before .is-within .ensures) ∙ c .before .before .before .before .if1 .left, sym (c .before .before .before .is-within2 .ensures) ∙ c .before .before .if2 .left, sym (c .before .is-within3 .ensures) ∙ c .if3 .taken)
+    let is-within = c .before .before .before .before .before .is-within in
+    let if1 = c .before .before .before .before .if1 in
+    let is-within2 = c .before .before .before .is-within2 in
+    let if2 = c .before .before .if2 in
+    let is-within3 = c .before .is-within3 in
+    simp (sym (is-within .ensures) ∙ if1 .left, sym (is-within2 .ensures) ∙ if2 .left, sym (is-within3 .ensures) ∙ c .if3 .taken)
 
 returns-4 : tie.Need-returns-4
 returns-4 c =
-    simp (sym (c .before .before .before .before .before .is-within .ensures) ∙ c .before .before .before .before .if1 .left, sym (c .before .before .before .is-within2 .ensures) ∙ c .before .before .if2 .left, sym (c .before .is-within3 .ensures) ∙ c .if3 .left)
+    let is-within = c .before .before .before .before .before .is-within in
+    let if1 = c .before .before .before .before .if1 in
+    let is-within2 = c .before .before .before .is-within2 in
+    let if2 = c .before .before .if2 in
+    let is-within3 = c .before .is-within3 in
+    simp (sym (is-within .ensures) ∙ if1 .left, sym (is-within2 .ensures) ∙ if2 .left, sym (is-within3 .ensures) ∙ c .if3 .left)
 
 pub nibble-spec : {M : Type 1} → statement M
 nibble-spec =

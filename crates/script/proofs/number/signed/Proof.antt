@@ -24,7 +24,9 @@ decimal-requires c κs = search needs
 
 returns-2 : tie.Need-returns-2
 returns-2 c =
-    c .decimal .ensures ∙ sym (signs-plus _ _ (c .before .before .before .if1 .left) (c .before .if2 .taken))
+    let if1 = c .before .before .before .if1 in
+    let if2 = c .before .if2 in
+    c .decimal .ensures ∙ sym (signs-plus _ _ (if1 .left) (if2 .taken))
 
 from-requires : tie.Need-from-requires
 from-requires c κs = search needs
@@ -40,22 +42,48 @@ enum-told c = search needs
 
 returns-3 : tie.Need-returns-3
 returns-3 c =
-    sym (signs-minus _ _ (c .before .before .before .before .before .before .if1 .left) (c .before .before .before .before .if2 .left) ∙ ap (minus (c .before .before .before .before .before .before .before .before .args .half)) (rw (c .before .before .before .from .ensures) at (sym (c .before .before .decimal2 .ensures)) ∙ c .enum-told .given .1))
+    let start = c .before .before .before .before .before .before .before .before in
+    let if1 = c .before .before .before .before .before .before .if1 in
+    let if2 = c .before .before .before .before .if2 in
+    let from = c .before .before .before .from in
+    let decimal2 = c .before .before .decimal2 in
+    sym (signs-minus _ _ (if1 .left) (if2 .left) ∙ ap (minus (start .args .half)) (rw (from .ensures) at (sym (decimal2 .ensures)) ∙ c .enum-told .given .1))
 
 returns-4 : tie.Need-returns-4
 returns-4 c =
-    sym (signs-minus _ _ (c .before .before .before .before .before .before .before .before .if1 .left) (c .before .before .before .before .before .before .if2 .left) ∙ ap (minus (c .before .before .before .before .before .before .before .before .before .before .args .half)) (rw (c .before .before .before .before .before .from .ensures) at (sym (c .before .before .before .before .decimal2 .ensures)) ∙ c .before .before .n .given .1) ∙ minus-zero (c .before .before .before .before .before .before .before .before .before .before .args .half) _ (c .if3 .taken))
+    let start = c .before .before .before .before .before .before .before .before .before .before in
+    let if1 = c .before .before .before .before .before .before .before .before .if1 in
+    let if2 = c .before .before .before .before .before .before .if2 in
+    let from = c .before .before .before .before .before .from in
+    let decimal2 = c .before .before .before .before .decimal2 in
+    let n = c .before .before .n in
+    let half = start .args .half in
+    let number = rw (from .ensures) at (sym (decimal2 .ensures)) ∙ n .given .1 in
+    sym (signs-minus _ _ (if1 .left) (if2 .left) ∙ ap (minus half) number ∙ minus-zero half _ (c .if3 .taken))
 
 mul-t11 : tie.Need-mul-t11
 mul-t11 c = search needs
 
 sub-t12 : tie.Need-sub-t12
 sub-t12 c =
-    omega (arith, decimal-within (c .before .before .before .before .before .before .before .before .before .before .args .half) (drop 1 (c .before .before .before .before .before .before .before .before .before .before .args .word .now)) (c .before .before .n .given .0 .0) (rw (c .before .before .before .before .before .from .ensures) at (sym (c .before .before .before .before .decimal2 .ensures)) ∙ c .before .before .n .given .1))
+    let start = c .before .before .before .before .before .before .before .before .before .before in
+    let from = c .before .before .before .before .before .from in
+    let decimal2 = c .before .before .before .before .decimal2 in
+    let n = c .before .before .n in
+    let number = rw (from .ensures) at (sym (decimal2 .ensures)) ∙ n .given .1 in
+    omega (arith, decimal-within (start .args .half) (drop 1 (start .args .word .now)) (n .given .0 .0) number)
 
 returns-5 : tie.Need-returns-5
 returns-5 c =
-    sym (signs-minus _ _ (c .before .before .before .before .before .before .before .before .if1 .left) (c .before .before .before .before .before .before .if2 .left) ∙ ap (minus (c .before .before .before .before .before .before .before .before .before .before .args .half)) (rw (c .before .before .before .before .before .from .ensures) at (sym (c .before .before .before .before .decimal2 .ensures)) ∙ c .before .before .n .given .1) ∙ minus-more (c .before .before .before .before .before .before .before .before .before .before .args .half) _ (c .if3 .left))
+    let start = c .before .before .before .before .before .before .before .before .before .before in
+    let if1 = c .before .before .before .before .before .before .before .before .if1 in
+    let if2 = c .before .before .before .before .before .before .if2 in
+    let from = c .before .before .before .before .before .from in
+    let decimal2 = c .before .before .before .before .decimal2 in
+    let n = c .before .before .n in
+    let half = start .args .half in
+    let number = rw (from .ensures) at (sym (decimal2 .ensures)) ∙ n .given .1 in
+    sym (signs-minus _ _ (if1 .left) (if2 .left) ∙ ap (minus half) number ∙ minus-more half _ (c .if3 .left))
 
 pub signed-spec : {M : Type 1} → statement M
 signed-spec =

@@ -19,7 +19,11 @@ part-requires c κs = search needs
 
 returns : tie.Need-returns
 returns c =
-    rw (c .part .ensures, c .before .span .ensures, c .before .before .from .ensures, c .before .before .before .lead .ensures) (first-is (c .before .before .before .before .before .args .s .now))
+    let start = c .before .before .before .before .before in
+    let lead = c .before .before .before .lead in
+    let from = c .before .before .from in
+    let span = c .before .span in
+    rw (c .part .ensures, span .ensures, from .ensures, lead .ensures) (first-is (start .args .s .now))
 
 pub first-spec : {M : Type 1} → statement M
 first-spec = tie.close (tie.spec lead-requires from-requires span-requires part-requires returns)

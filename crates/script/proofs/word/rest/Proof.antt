@@ -13,7 +13,9 @@ from-requires c κs = search needs
 
 returns : tie.Need-returns
 returns c =
-    rw (c .from .ensures, c .before .used .ensures) (rest-is (c .before .before .before .args .s .now))
+    let start = c .before .before .before in
+    let used = c .before .used in
+    rw (c .from .ensures, used .ensures) (rest-is (start .args .s .now))
 
 pub rest-spec : {M : Type 1} → statement M
 rest-spec = tie.close (tie.spec used-requires from-requires returns)

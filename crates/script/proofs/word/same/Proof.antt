@@ -31,11 +31,18 @@ shared-slice-read-if2 c =
 
 shared-slice-read-if2-2 : tie.Need-shared-slice-read-if2-2 Inv-loop μ-loop
 shared-slice-read-if2-2 c =
-    omega (arith, c .before .before .before .before .if1 .left)
+    let if1 = c .before .before .before .before .if1 in
+    omega (arith, if1 .left)
 
 returns-2 : tie.Need-returns-2 Inv-loop μ-loop
 returns-2 c =
-    sym (c .before .before .before .before .loop .inv .1 ∙ same-stops (c .before .before .before .before .before .before .args .a .now) (c .before .before .before .before .before .before .args .b .now) (c .before .before .before .before .loop .i) (c .before .before .before .loop-test .taken) (omega (arith, c .before .before .before .loop-test .taken, c .before .before .before .before .before .if1 .left)) (c .if2 .taken))
+    let start = c .before .before .before .before .before .before in
+    let if1 = c .before .before .before .before .before .if1 in
+    let loop = c .before .before .before .before .loop in
+    let loop-test = c .before .before .before .loop-test in
+    let a = start .args .a .now in
+    let b = start .args .b .now in
+    sym (loop .inv .1 ∙ same-stops a b (loop .i) (loop-test .taken) (omega (arith, loop-test .taken, if1 .left)) (c .if2 .taken))
 
 add-i : tie.Need-add-i Inv-loop μ-loop
 add-i c =
@@ -43,18 +50,30 @@ add-i c =
 
 loop-less : tie.Need-loop-less Inv-loop μ-loop
 loop-less c =
-    omega (arith, c .before .before .before .loop-test .taken)
+    let loop-test = c .before .before .before .loop-test in
+    omega (arith, loop-test .taken)
 
 loop-again : tie.Need-loop-again Inv-loop μ-loop
 loop-again c =
-    (omega (arith, c .before .before .before .loop-test .taken), c .before .before .before .before .loop .inv .1 ∙ same-on (c .before .before .before .before .before .before .args .a .now) (c .before .before .before .before .before .before .args .b .now) (c .before .before .before .before .loop .i) (c .before .before .before .loop-test .taken) (omega (arith, c .before .before .before .loop-test .taken, c .before .before .before .before .before .if1 .left)) (c .if2 .left))
+    let start = c .before .before .before .before .before .before in
+    let if1 = c .before .before .before .before .before .if1 in
+    let loop = c .before .before .before .before .loop in
+    let loop-test = c .before .before .before .loop-test in
+    let a = start .args .a .now in
+    let b = start .args .b .now in (
+      omega (arith, loop-test .taken),
+      loop .inv .1 ∙ same-on a b (loop .i) (loop-test .taken) (omega (arith, loop-test .taken, if1 .left)) (c .if2 .left),
+    )
 
 returns-3 : tie.Need-returns-3 Inv-loop μ-loop
 unfolding same
 returns-3 c =
-    let e = no-more (c .before .before .before .args .a .now) (c .before .loop .i) (omega arith) in
-    let f = no-more (c .before .before .before .args .b .now) (c .before .loop .i) (omega (arith, c .before .before .if1 .left)) in
-    sym (rw (e, f) at (c .before .loop .inv .1))
+    let start = c .before .before .before in
+    let if1 = c .before .before .if1 in
+    let loop = c .before .loop in
+    let e = no-more (start .args .a .now) (loop .i) (omega arith) in
+    let f = no-more (start .args .b .now) (loop .i) (omega (arith, if1 .left)) in
+    sym (rw (e, f) at (loop .inv .1))
 
 pub same-spec : {M : Type 1} → statement M
 same-spec =

@@ -20,8 +20,11 @@ span-requires c κs = search needs
 
 add-result : tie.Need-add-result
 add-result c =
-    let e : c .before .before .lead .result + c .span .result ≡ used (c .before .before .before .before .args .s .now) = rw (c .span .ensures, c .before .from .ensures, c .before .before .lead .ensures) in
-    omega (arith, e, used-within (c .before .before .before .before .args .s .now), c .before .before .before .before .good)
+    let start = c .before .before .before .before in
+    let lead = c .before .before .lead in
+    let from = c .before .from in
+    let e : lead .result + c .span .result ≡ used (start .args .s .now) = rw (c .span .ensures, from .ensures, lead .ensures) in
+    omega (arith, e, used-within (start .args .s .now), start .good)
 
 returns : tie.Need-returns
 returns c =

@@ -1,0 +1,14 @@
+pub mod Slots
+pub mod Stands
+pub mod Outcomes
+pub mod Inbox
+pub mod Link
+pub mod Commands
+pub mod Byte
+pub mod Refinement
+pub mod Refusals
+pub mod Output
+pub mod Demands
+pub mod Named
+pub mod Witnesses
+pub mod Values
