@@ -1,5 +1,5 @@
 /*
- * dongle: the loops of the program pace (crates/pace), through the functions that C programs call.
+ * dongle: the loops of the program benchmark (crates/benchmark), through the functions that C programs call.
  *
  * Standard input has a letter, which work, and a decimal number, how many rounds. What it prints is
  * how many bytes the events wrote, and for b how many were in the runs, modulo a million: as pace
@@ -93,7 +93,7 @@ static struct count ticks(struct count c)
 
 /*
  * A disconnect, with the bytes of the run counted before it. Where the control array has their
- * number is not the header's to say: it is crates/words, link_word.
+ * number is not the header's to say: it is crates/packed, link_word.
  */
 static struct count leave(struct count c)
 {

@@ -29,7 +29,7 @@ use Rattle.device.specs.Frames.{Received, damaged, command}
 use Rattle.device.specs.Reading.{frameIn, tagged, brings}
 use Rattle.device.specs.Tally.{Tally, ifTaken}
 use Rattle.device.specs.Observer.{Observer}
-use Rattle.device.specs.Due.{isOnAir, isConfiguring, unlessError, judgedBy, runBrings, byteBrings, commandError, opened, errDue, broughtAnswer}
+use Rattle.device.specs.Due.{isOnAir, isConfiguring, unlessError, broughtBy, runBrings, byteBrings, commandError, opened, errDue, broughtAnswer}
 use Rattle.device.specs.Due.{configuredAnswer, faultAnswer, inSession, answersDue, radioReport, cancels, cancelsAfter, endReports}
 use Rattle.device.specs.Due.{setReports, broughtReports, reportsDue, oldest, deliveriesDue, messagesDue, broughtOrder, atWork, orderDue}
 use Rattle.device.specs.Demands.{damaged?, runDamaged, endsDamaged, eframes, dropCounts, request?, due}
@@ -126,7 +126,8 @@ module _ (b : Board) (t : Tally) (k : Observer) where
   WritesDue e = Each Plain (answersDue b e t k ++ reportsDue b e t k)
 
   -- where no damaged run ends
-  plain-run : (fs : List Frame) → damaged? (tagged fs) ≡ false → let x = judgedBy b (tagged fs) k in Each Plain (broughtAnswer b x ++ broughtReports x (k .air))
+  plain-run : (fs : List Frame) → damaged? (tagged fs) ≡ false
+      → let x = broughtBy b (tagged fs) k in Each Plain (broughtAnswer b x ++ broughtReports x (k .air))
   plain-run [] h = absurd (true≢false h)
   plain-run (frame kind zero p ∷ fs) h = absurd (true≢false h)
   plain-run (frame kind (suc u) p ∷ fs) h = plain-command b (commandError b (k .config) (opened (k .air .radio) (k .air .waiting)) kind p) kind u p (k .air)

@@ -171,13 +171,13 @@ abbrev pub unlessError : Option ℕ → ℕ → ℕ → List ℕ → Brought
 unlessError (some code) kind t p = wrong code t
 unlessError none kind t p = right kind t p
 
-abbrev pub judgedBy : Board → Received → Observer → Brought
-judgedBy b damaged k = damage
-judgedBy b (command kind t p) k = unlessError (commandError b (k .config) (opened (k .air .radio) (k .air .waiting)) kind p) kind t p
+abbrev pub broughtBy : Board → Received → Observer → Brought
+broughtBy b damaged k = damage
+broughtBy b (command kind t p) k = unlessError (commandError b (k .config) (opened (k .air .radio) (k .air .waiting)) kind p) kind t p
 
 abbrev pub runBrings : Board → List ℕ → Observer → Brought
 runBrings b [] k = no-frame
-runBrings b (r ∷ rs) k = judgedBy b (brings (r ∷ rs)) k
+runBrings b (r ∷ rs) k = broughtBy b (brings (r ∷ rs)) k
 
 abbrev pub byteBrings : Board → ℕ → List ℕ → Observer → Brought
 byteBrings b zero run k = runBrings b run k

@@ -64,13 +64,13 @@ module _ (kinds : Kinds) (k t : ℕ) (p d : List ℕ) (small : t < 65536) (short
   same-payload : payloadOf (decoded run) ≡ p
   same-payload = ap payloadOf (round-trip (body k t p)) ∙ payload-body k t p
 
-  judged : check kinds k t (fitsRead kinds k (payloadOf (decoded run))) ≡ J.Good
+  well-formed : check kinds k t (fitsRead kinds k (payloadOf (decoded run))) ≡ J.Good
   unfolding check
-  judged = rw (same-payload, g .tag, g .type, g .form)
+  well-formed = rw (same-payload, g .tag, g .type, g .form)
 
   frame-back : FrameBack kinds k t p d
   frame-back =
-      let b = takes kinds run d (frame-opens k t p d small short room .0) judged in
+      let b = takes kinds run d (frame-opens k t p d small short room .0) well-formed in
       record {
         answer = b .0;
         memory = b .1 ∙ ap (λ (x : List ℕ). lay 0 x d) (round-trip (body k t p));

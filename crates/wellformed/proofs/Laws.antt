@@ -31,18 +31,18 @@ good kinds k t fits e = go (tagWrong k t) (has kinds k) fits refl refl refl
     go false true true p q r = record { tag = p; type = q; form = r }
 
 -- the result of a number
-abbrev judgedBy : ℕ → Checked
-judgedBy n = cond (eqb n TAKEN) J.Good (J.Refused (refusalOf n))
+abbrev checkedBy : ℕ → Checked
+checkedBy n = cond (eqb n TAKEN) J.Good (J.Refused (refusalOf n))
 
-judged-back : (j : Checked) → judgedBy (checkedNumber j) ≡ j
-judged-back J.Good = refl
-judged-back (J.Refused R.Short) = refl
-judged-back (J.Refused R.Stuff) = refl
-judged-back (J.Refused R.Length) = refl
-judged-back (J.Refused R.Check) = refl
-judged-back (J.Refused R.Tag) = refl
-judged-back (J.Refused R.Type) = refl
-judged-back (J.Refused R.Form) = refl
+checked-back : (j : Checked) → checkedBy (checkedNumber j) ≡ j
+checked-back J.Good = refl
+checked-back (J.Refused R.Short) = refl
+checked-back (J.Refused R.Stuff) = refl
+checked-back (J.Refused R.Length) = refl
+checked-back (J.Refused R.Check) = refl
+checked-back (J.Refused R.Tag) = refl
+checked-back (J.Refused R.Type) = refl
+checked-back (J.Refused R.Form) = refl
 
-pub judged-same : (a b : Checked) → checkedNumber a ≡ checkedNumber b → a ≡ b
-judged-same = same-by checkedNumber judgedBy judged-back
+pub checked-same : (a b : Checked) → checkedNumber a ≡ checkedNumber b → a ≡ b
+checked-same = same-by checkedNumber checkedBy checked-back

@@ -28,9 +28,9 @@ put-requires : tie.Need-put-requires
 unfolding line twoColumns
 put-requires c κs =
     let start' = c .before .before .before .before .before .before .before .before .before in
-    let s = start' .args in
     let decimal' = c .before .before .before .before .before .before .decimal in
     let enum-told = c .before .before .enum-told in
+    let s = start' .args in
     let l0 = rw (enum-told .given .1) at (start (s .from) (line (s .at) (s .opened) (s .n)) (s .dst .now) (start' .pre)) in
     let l1 = wrote (decimal (s .at)) _ l0 (decimal' .ensures) in
     fits (text " BAD -") _ l1
@@ -39,10 +39,10 @@ last-column-requires : tie.Need-last-column-requires
 unfolding line twoColumns
 last-column-requires c κs =
     let start' = c .before .before .before .before .before .before .before .before .before .before .before .before .before in
-    let s = start' .args in
     let decimal' = c .before .before .before .before .before .before .before .before .before .before .decimal in
     let enum-told = c .before .before .before .before .before .before .enum-told in
     let put = c .before .before .before .put in
+    let s = start' .args in
     let l0 = rw (enum-told .given .1) at (start (s .from) (line (s .at) (s .opened) (s .n)) (s .dst .now) (start' .pre)) in
     let l1 = wrote (decimal (s .at)) _ l0 (decimal' .ensures) in
     let l2 = wrote (text " BAD -") _ l1 (put .ensures) in
@@ -55,11 +55,11 @@ returns : tie.Need-returns
 unfolding line twoColumns
 returns c =
     let start' = c .before .before .before .before .before .before .before .before .before .before .before .before .before .before .before .before in
-    let s = start' .args in
     let decimal' = c .before .before .before .before .before .before .before .before .before .before .before .before .before .decimal in
     let enum-told = c .before .before .before .before .before .before .before .before .before .enum-told in
     let put = c .before .before .before .before .before .before .put in
     let last-column = c .before .before .last-column in
+    let s = start' .args in
     let e = enum-told .given .1 in
     let l0 = rw e at (start (s .from) (line (s .at) (s .opened) (s .n)) (s .dst .now) (start' .pre)) in
     let l1 = wrote (decimal (s .at)) _ l0 (decimal' .ensures) in
@@ -70,9 +70,9 @@ type-and-tag-requires : tie.Need-type-and-tag-requires
 unfolding line
 type-and-tag-requires c κs =
     let start' = c .before .before .before .before .before .before .before .before .before in
-    let s = start' .args in
     let decimal' = c .before .before .before .before .before .before .decimal in
     let opened = c .before .before .opened in
+    let s = start' .args in
     let o = opened .given in
     let l0 = rw (o .1) at (start (s .from) (line (s .at) (s .opened) (s .n)) (s .dst .now) (start' .pre)) in
     let l1 = wrote (decimal (s .at)) _ l0 (decimal' .ensures) in
@@ -82,10 +82,10 @@ last-column-requires-2 : tie.Need-last-column-requires-2
 unfolding line
 last-column-requires-2 c κs =
     let start' = c .before .before .before .before .before .before .before .before .before .before .before .before .before in
-    let s = start' .args in
     let decimal' = c .before .before .before .before .before .before .before .before .before .before .decimal in
     let opened = c .before .before .before .before .before .before .opened in
     let type-and-tag = c .before .before .before .type-and-tag in
+    let s = start' .args in
     let o = opened .given in
     let l0 = rw (o .1) at (start (s .from) (line (s .at) (s .opened) (s .n)) (s .dst .now) (start' .pre)) in
     let l1 = wrote (decimal (s .at)) _ l0 (decimal' .ensures) in
@@ -99,11 +99,11 @@ returns-2 : tie.Need-returns-2
 unfolding line
 returns-2 c =
     let start' = c .before .before .before .before .before .before .before .before .before .before .before .before .before .before .before .before in
-    let s = start' .args in
     let decimal' = c .before .before .before .before .before .before .before .before .before .before .before .before .before .decimal in
     let opened = c .before .before .before .before .before .before .before .before .before .opened in
     let type-and-tag = c .before .before .before .before .before .before .type-and-tag in
     let last-column2 = c .before .before .last-column2 in
+    let s = start' .args in
     let o = opened .given in
     let l0 = rw (o .1) at (start (s .from) (line (s .at) (s .opened) (s .n)) (s .dst .now) (start' .pre)) in
     let l1 = wrote (decimal (s .at)) _ l0 (decimal' .ensures) in

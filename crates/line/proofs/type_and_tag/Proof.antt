@@ -23,8 +23,8 @@ name-requires : tie.Need-name-requires
 unfolding twoColumns
 name-requires c κs =
     let start' = c .before .before .before .before .before .before .before in
-    let s = start' .args in
     let put = c .before .before .before .put in
+    let s = start' .args in
     let l0 = start (s .from) (twoColumns (name (s .kind)) (hex4 (s .tag))) (s .dst .now) (start' .pre) in
     let l1 = wrote (text " ") _ l0 (put .ensures) in
     fits (name (s .kind)) _ l1
@@ -36,9 +36,9 @@ put-requires-2 : tie.Need-put-requires-2
 unfolding twoColumns
 put-requires-2 c κs =
     let start' = c .before .before .before .before .before .before .before .before .before .before .before .before in
-    let s = start' .args in
     let put = c .before .before .before .before .before .before .before .before .put in
     let name' = c .before .before .before .before .name in
+    let s = start' .args in
     let l0 = start (s .from) (twoColumns (name (s .kind)) (hex4 (s .tag))) (s .dst .now) (start' .pre) in
     let l1 = wrote (text " ") _ l0 (put .ensures) in
     let l2 = wrote (name (s .kind)) _ l1 (name' .ensures) in
@@ -48,10 +48,10 @@ hex4-requires : tie.Need-hex4-requires
 unfolding twoColumns
 hex4-requires c κs =
     let start' = c .before .before .before .before .before .before .before .before .before .before .before .before .before .before .before .before in
-    let s = start' .args in
     let put = c .before .before .before .before .before .before .before .before .before .before .before .before .put in
     let name' = c .before .before .before .before .before .before .before .before .name in
     let put2 = c .before .before .before .put2 in
+    let s = start' .args in
     let l0 = start (s .from) (twoColumns (name (s .kind)) (hex4 (s .tag))) (s .dst .now) (start' .pre) in
     let l1 = wrote (text " ") _ l0 (put .ensures) in
     let l2 = wrote (name (s .kind)) _ l1 (name' .ensures) in
@@ -66,11 +66,11 @@ unfolding twoColumns
 returns c =
     let back = c .before .before .before .before .before .before .before .before .before .before .before .before .before .before .before .before in
     let start' = back .before .before .before in
-    let s = start' .args in
     let put = c .before .before .before .before .before .before .before .before .before .before .before .before .before .before .before .put in
     let name' = c .before .before .before .before .before .before .before .before .before .before .before .name in
     let put2 = c .before .before .before .before .before .before .put2 in
     let hex4' = c .before .before .hex4 in
+    let s = start' .args in
     let l0 = start (s .from) (twoColumns (name (s .kind)) (hex4 (s .tag))) (s .dst .now) (start' .pre) in
     let l1 = wrote (text " ") _ l0 (put .ensures) in
     let l2 = wrote (name (s .kind)) _ l1 (name' .ensures) in

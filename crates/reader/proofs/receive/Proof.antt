@@ -7,7 +7,7 @@ use lib.ListN.{length, length-take}
 use lib.Seq.{length-take-le}
 use Rattle.frame.specs.Reading.{openedResult}
 use Rattle.frame.proofs.Laws.{opens-facts, unpack-body, payload-seen}
-use Rattle.wellformed.proofs.Laws.{judged-same}
+use Rattle.wellformed.proofs.Laws.{checked-same}
 use Rattle.reader.proofs.Steps.{keeps, refuses, takes}
 use borrow.Author.Needs.{needs}
 use Rattle.reader.proofs.receive.Statement.{statement}
@@ -76,7 +76,7 @@ returns-2 c =
     let p = payload-seen (s .run .now) (length (s .dst .now)) (w .last .1 .1 .0) e (w .ensures .1) in
     let f = fits-read .ensures in
     let q = rw (f, p) at (check .ensures) in
-    let j = sym (judged-same _ _ q) ∙ r .given .1 in
+    let j = sym (checked-same _ _ q) ∙ r .given .1 in
     let k = refuses (s .kinds) (s .run .now) (s .dst .now) e j in
     (ap openedResult (sym (k .0)), sym (k .1))
 
@@ -137,7 +137,7 @@ returns-3 c =
     let p = payload-seen (s .run .now) (length (s .dst .now)) (w .last .1 .1 .0) e (w .ensures .1) in
     let f = fits-read .ensures in
     let q = rw (f, p) at (check .ensures) in
-    let j = sym (judged-same _ _ q) ∙ enum-told2 .given .1 in
+    let j = sym (checked-same _ _ q) ∙ enum-told2 .given .1 in
     let k = takes (s .kinds) (s .run .now) (s .dst .now) e j in
     (ap openedResult (sym (k .0)), rw (w .ensures .1, unpack-body _ _ _ e (le-refl 282)) at (copy .ensures) ∙ sym (k .1))
 

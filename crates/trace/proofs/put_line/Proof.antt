@@ -22,8 +22,8 @@ put-column-requires-2 : tie.Need-put-column-requires-2
 unfolding traceLine
 put-column-requires-2 c κs =
     let start' = c .before .before .before .before .before .before .before .before .before in
-    let s = start' .args in
     let put-column = c .before .before .before .before .put-column in
+    let s = start' .args in
     let l0 = start (s .from) (traceLine (s .k) (s .a) (s .commands .now) (s .out .now)) (s .dst .now) (start' .pre) in
     let l1 = wrote (numberColumn (s .k)) _ l0 (put-column .ensures) in
     fits (numberColumn (s .a .number)) _ l1
@@ -32,9 +32,9 @@ put-order-requires : tie.Need-put-order-requires
 unfolding traceLine
 put-order-requires c κs =
     let start' = c .before .before .before .before .before .before .before .before .before .before .before .before .before in
-    let s = start' .args in
     let put-column = c .before .before .before .before .before .before .before .before .put-column in
     let put-column2 = c .before .before .before .put-column2 in
+    let s = start' .args in
     let l0 = start (s .from) (traceLine (s .k) (s .a) (s .commands .now) (s .out .now)) (s .dst .now) (start' .pre) in
     let l1 = wrote (numberColumn (s .k)) _ l0 (put-column .ensures) in
     let l2 = wrote (numberColumn (s .a .number)) _ l1 (put-column2 .ensures) in
@@ -48,11 +48,11 @@ unfolding traceLine
 put-end-requires c κs =
     let back = c .before .before .before .before .before .before .before .before .before .before .before .before .before .before .before .before in
     let start' = back .before .before in
-    let s = start' .args in
     let put-column = c .before .before .before .before .before .before .before .before .before .before .before .before .before .put-column in
     let put-column2 = c .before .before .before .before .before .before .before .before .put-column2 in
     let put-order = c .before .before .before .before .put-order in
     let part = c .before .part in
+    let s = start' .args in
     let l0 = start (s .from) (traceLine (s .k) (s .a) (s .commands .now) (s .out .now)) (s .dst .now) (start' .pre) in
     let l1 = wrote (numberColumn (s .k)) _ l0 (put-column .ensures) in
     let l2 = wrote (numberColumn (s .a .number)) _ l1 (put-column2 .ensures) in
@@ -67,12 +67,12 @@ unfolding traceLine
 returns c =
     let back = c .before .before .before .before .before .before .before .before .before .before .before .before .before .before .before .before in
     let start' = back .before .before .before .before .before in
-    let s = start' .args in
     let put-column = back .put-column in
     let put-column2 = c .before .before .before .before .before .before .before .before .before .before .before .put-column2 in
     let put-order = c .before .before .before .before .before .before .before .put-order in
     let part = c .before .before .before .before .part in
     let put-end = c .before .before .put-end in
+    let s = start' .args in
     let l0 = start (s .from) (traceLine (s .k) (s .a) (s .commands .now) (s .out .now)) (s .dst .now) (start' .pre) in
     let l1 = wrote (numberColumn (s .k)) _ l0 (put-column .ensures) in
     let l2 = wrote (numberColumn (s .a .number)) _ l1 (put-column2 .ensures) in

@@ -2,7 +2,7 @@
 -- Assumes nothing.
 use mathlib.Core.Path.{sym, ap, _∙_}
 use Rattle.frame.specs.Writing.{writtenResult}
-use Rattle.wellformed.proofs.Laws.{judged-same}
+use Rattle.wellformed.proofs.Laws.{checked-same}
 use Rattle.writer.proofs.Steps.{no-body, as-body}
 use borrow.Author.Needs.{needs}
 use Rattle.writer.proofs.build.Statement.{statement}
@@ -35,7 +35,7 @@ returns c =
     let build = c .before .before .build in
     let f = fits-written .ensures in
     let q = rw (f) at (check .ensures) in
-    let j = sym (judged-same _ _ q) ∙ enum-told .given .1 in
+    let j = sym (checked-same _ _ q) ∙ enum-told .given .1 in
     let a = as-body (s .kinds) (s .kind) (s .tag) (s .payload .now) (s .dst .now) j in
     (build .ensures .0 ∙ ap writtenResult (sym (a .0)), build .ensures .1 ∙ sym (a .1))
 
@@ -47,7 +47,7 @@ returns-2 c =
     let r = c .before .r in
     let f = fits-written .ensures in
     let q = rw (f) at (check .ensures) in
-    let j = sym (judged-same _ _ q) ∙ r .given .1 in
+    let j = sym (checked-same _ _ q) ∙ r .given .1 in
     let a = no-body (s .kinds) (s .kind) (s .tag) (s .payload .now) (s .dst .now) j in
     (ap writtenResult (sym (a .0)), sym (a .1))
 
