@@ -1,6 +1,6 @@
 // The device's state and its answers as words of 64 bits, for callers that know no enums.
 ghost use mathlib.Core.Path.{_≡_};
-ghost use Prim.Native.Nat.{_%_};
+ghost use Prim.Native.Nat.{_+_, _*_, _%_};
 ghost use Rattle.device.specs.Messages.{yes};
 ghost use Rattle.control.specs.Control.{orderNumber, replyNumbers};
 ghost use Rattle.packed.specs.Words.{modeNumber, modeIn, radioNumber, radioTag, radioIn, lowBit, linkWord};
@@ -20,7 +20,7 @@ pub const CONTROL: usize = 4;
 pub const ANSWER: usize = 7;
 
 // Yes or no as a number.
-fn flag(b: bool) -> u64
+fn flag(b: bool) -> u32
     ensures { λ r. ⌜ r ≡ yes b ⌝ }
 {
     if b {
@@ -50,6 +50,13 @@ fn low16(w: u64) -> u16
     (w % 0x10000) as u16
 }
 
+// A word by its two halves, each worked out in 32 bits: one register of a small processor.
+fn word(low: u32, high: u32) -> u64
+    ensures { λ r. ⌜ r ≡ low + high * 0x100000000 ⌝ }
+{
+    low as u64 + high as u64 * 0x100000000
+}
+
 // The mode as a number.
 fn mode_number(m: Mode) -> u64
     ensures { λ r. ⌜ r ≡ modeNumber m ⌝ }
@@ -75,7 +82,7 @@ fn mode_of(n: u64) -> Mode
 }
 
 // What the radio does, as a number.
-fn radio_number(r: Radio) -> u64
+fn radio_number(r: Radio) -> u32
     ensures { λ n. ⌜ n ≡ radioNumber r ⌝ }
 {
     match r {
@@ -123,7 +130,7 @@ fn radio_of(n: u64, tag: u16) -> Radio
 fn link_word(l: Link) -> u64
     ensures { λ r. ⌜ r ≡ linkWord l ⌝ }
 {
-    flag(l.session) + l.ticks as u64 * 0x10000 + l.run as u64 * 0x100000000
+    word(flag(l.session) + l.ticks as u32 * 0x10000, l.run as u32)
 }
 
 // The host's side that a word stands for.
@@ -142,11 +149,10 @@ fn air_word(a: Air) -> u64
     ensures { λ r. ⌜ r ≡ airWord a ⌝ }
 {
     let radio = a.radio;
-    radio_number(radio)
-        + radio_tag(radio) as u64 * 0x10000
-        + flag(a.pending) * 0x100000000
-        + a.first as u64 * 0x10000000000
-        + a.waiting as u64 * 0x1000000000000
+    word(
+        radio_number(radio) + radio_tag(radio) as u32 * 0x10000,
+        flag(a.pending) + a.first as u32 * 0x100 + a.waiting as u32 * 0x10000,
+    )
 }
 
 // The radio's side that a word stands for.
@@ -162,11 +168,11 @@ fn air_of(w: u64) -> Air
     }
 }
 
-// Reception as a word.
+// Reception as a word. Most events leave it as it was, and of one sum the compiler sees that.
 fn inbox_word(i: Inbox) -> u64
     ensures { λ r. ⌜ r ≡ inboxWord i ⌝ }
 {
-    flag(i.receiving)
+    flag(i.receiving) as u64
         + i.first as u64 * 0x10000
         + i.held as u64 * 0x100000000
         + i.drops as u64 * 0x1000000000000
@@ -247,18 +253,12 @@ fn answer_words(a: Reply) -> [u64; ANSWER]
     let o = a.order;
     let order = order_number(o);
     if let Order::Configure { at, len, ldro } = o {
-        return [number, written, order, at as u64, len as u64, flag(ldro), 0];
+        let on = flag(ldro) as u64;
+        return [number, written, order, at as u64, len as u64, on, 0];
     }
     if let Order::Transmit { at, len, listen } = o {
-        return [
-            number,
-            written,
-            order,
-            at as u64,
-            len as u64,
-            0,
-            flag(listen),
-        ];
+        let first = flag(listen) as u64;
+        return [number, written, order, at as u64, len as u64, 0, first];
     }
     [number, written, order, 0, 0, 0, 0]
 }

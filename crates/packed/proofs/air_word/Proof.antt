@@ -1,4 +1,4 @@
--- The sum stays below 2^64, since each number is below its next place.
+-- Each half stays below 2^32, since each number is below its next place.
 -- Assumes nothing.
 use native.Mathlib.Omega.{arith}
 use Rattle.packed.proofs.Laws.{yes-small, radio-small}
@@ -12,61 +12,43 @@ radio-number-requires c κs = search needs
 radio-tag-requires : tie.Need-radio-tag-requires
 radio-tag-requires c κs = search needs
 
-cast-result : tie.Need-cast-result
-cast-result c = search needs
+cast-word : tie.Need-cast-word
+cast-word c = search needs
 
-mul-result : tie.Need-mul-result
-mul-result c = search needs
+mul-word : tie.Need-mul-word
+mul-word c = search needs
 
-add-result : tie.Need-add-result
-add-result c =
+add-word : tie.Need-add-word
+add-word c =
     let r = c .before .radio-number .ensures in let k = radio-small (c .before .before .args .a .radio) in omega arith
 
 flag-requires : tie.Need-flag-requires
 flag-requires c κs = search needs
 
-mul-result-2 : tie.Need-mul-result-2
-mul-result-2 c =
-    let start = c .before .before .before in
-    let e = c .flag .ensures in let h = yes-small (start .args .a .pending) in omega arith
+cast-word-2 : tie.Need-cast-word-2
+cast-word-2 c = search needs
 
-add-result-2 : tie.Need-add-result-2
-add-result-2 c =
-    let start = c .before .before .before in
-    let radio-number = c .before .before .radio-number in
-    let e = c .flag .ensures in
-    let h = yes-small (start .args .a .pending) in
-    let r = radio-number .ensures in let k = radio-small (start .args .a .radio) in omega arith
+mul-word-2 : tie.Need-mul-word-2
+mul-word-2 c = search needs
 
-cast-result-2 : tie.Need-cast-result-2
-cast-result-2 c = search needs
-
-mul-result-3 : tie.Need-mul-result-3
-mul-result-3 c = search needs
-
-add-result-3 : tie.Need-add-result-3
-add-result-3 c =
+add-word-2 : tie.Need-add-word-2
+add-word-2 c =
     let start = c .before .before .before .before in
-    let radio-number = c .before .before .before .radio-number in
-    let flag = c .before .flag in
-    let e = flag .ensures in
-    let h = yes-small (start .args .a .pending) in
-    let r = radio-number .ensures in let k = radio-small (start .args .a .radio) in omega arith
+    let e = c .before .flag .ensures in let h = yes-small (start .args .a .pending) in omega arith
 
-cast-result-3 : tie.Need-cast-result-3
-cast-result-3 c = search needs
+cast-word-3 : tie.Need-cast-word-3
+cast-word-3 c = search needs
 
-mul-result-4 : tie.Need-mul-result-4
-mul-result-4 c = search needs
+mul-word-3 : tie.Need-mul-word-3
+mul-word-3 c = search needs
 
-add-result-4 : tie.Need-add-result-4
-add-result-4 c =
+add-word-3 : tie.Need-add-word-3
+add-word-3 c =
     let start = c .before .before .before .before .before in
-    let radio-number = c .before .before .before .before .radio-number in
-    let flag = c .before .before .flag in
-    let e = flag .ensures in
-    let h = yes-small (start .args .a .pending) in
-    let r = radio-number .ensures in let k = radio-small (start .args .a .radio) in omega arith
+    let e = c .before .before .flag .ensures in let h = yes-small (start .args .a .pending) in omega arith
+
+word-requires : tie.Need-word-requires
+word-requires c κs = search needs
 
 returns : tie.Need-returns
 returns c = search needs
@@ -77,16 +59,15 @@ air-word-spec =
     (tie.spec
     radio-number-requires
     radio-tag-requires
-    cast-result
-    mul-result
-    add-result
+    cast-word
+    mul-word
+    add-word
     flag-requires
-    mul-result-2
-    add-result-2
-    cast-result-2
-    mul-result-3
-    add-result-3
-    cast-result-3
-    mul-result-4
-    add-result-4
+    cast-word-2
+    mul-word-2
+    add-word-2
+    cast-word-3
+    mul-word-3
+    add-word-3
+    word-requires
     returns)

@@ -19,6 +19,9 @@ enum-known-o c = search needs
 flag-requires : tie.Need-flag-requires
 flag-requires c κs = search needs
 
+cast-on : tie.Need-cast-on
+cast-on c = search needs
+
 returns : tie.Need-returns
 unfolding replyNumbers
 returns c =
@@ -31,6 +34,9 @@ enum-known-o-2 c = search needs
 
 flag-requires-2 : tie.Need-flag-requires-2
 flag-requires-2 c κs = search needs
+
+cast-first : tie.Need-cast-first
+cast-first c = search needs
 
 returns-2 : tie.Need-returns-2
 unfolding replyNumbers
@@ -55,8 +61,10 @@ answer-words-spec =
     order-number-requires
     enum-known-o
     flag-requires
+    cast-on
     returns
     enum-known-o-2
     flag-requires-2
+    cast-first
     returns-2
     returns-3)

@@ -1,4 +1,4 @@
--- The sum stays below 2^64, since each number is below its next place.
+-- Each half stays below 2^32, since each number is below its next place.
 -- Assumes nothing.
 use native.Mathlib.Omega.{arith}
 use Rattle.packed.proofs.Laws.{yes-small}
@@ -9,27 +9,21 @@ use Rattle.packed.proofs.link_word.Tie as tie
 flag-requires : tie.Need-flag-requires
 flag-requires c κs = search needs
 
-cast-result : tie.Need-cast-result
-cast-result c = search needs
+cast-word : tie.Need-cast-word
+cast-word c = search needs
 
-mul-result : tie.Need-mul-result
-mul-result c = search needs
+mul-word : tie.Need-mul-word
+mul-word c = search needs
 
-add-result : tie.Need-add-result
-add-result c =
+add-word : tie.Need-add-word
+add-word c =
     let e = c .before .flag .ensures in let h = yes-small (c .before .before .args .l .session) in omega arith
 
-cast-result-2 : tie.Need-cast-result-2
-cast-result-2 c = search needs
+cast-word-2 : tie.Need-cast-word-2
+cast-word-2 c = search needs
 
-mul-result-2 : tie.Need-mul-result-2
-mul-result-2 c = search needs
-
-add-result-2 : tie.Need-add-result-2
-add-result-2 c =
-    let start = c .before .before .before in
-    let flag = c .before .before .flag in
-    let e = flag .ensures in let h = yes-small (start .args .l .session) in omega arith
+word-requires : tie.Need-word-requires
+word-requires c κs = search needs
 
 returns : tie.Need-returns
 returns c = search needs
@@ -37,12 +31,4 @@ returns c = search needs
 pub link-word-spec : {M : Type 1} → statement M
 link-word-spec =
     tie.close
-    (tie.spec
-    flag-requires
-    cast-result
-    mul-result
-    add-result
-    cast-result-2
-    mul-result-2
-    add-result-2
-    returns)
+    (tie.spec flag-requires cast-word mul-word add-word cast-word-2 word-requires returns)
