@@ -8,6 +8,8 @@
  *   b: 255 bytes that are not zero, and a disconnect     t: 999 ticks, and a PING
  *   p: a PING                                            x: a TX with 255 bytes, and its sent
  *   k: a packet of 255 bytes is taken                    d: it is taken and delivered
+ *
+ * bench/cortex.c takes these functions in, and has a main of its own.
  */
 #include "donglora.h"
 
@@ -36,7 +38,7 @@ struct count {
 /* A frame, or any other bytes. */
 struct bytes {
     uint8_t at[DONGLORA_OUT];
-    size_t len;
+    donglora_size len;
 };
 
 /*
@@ -151,6 +153,18 @@ static struct bytes all_bytes(void)
     return all;
 }
 
+/* The frame of a TX with these bytes, which are sent at once. */
+static struct bytes tx_of(const struct bytes *bytes)
+{
+    uint8_t payload[256];
+    size_t i;
+
+    payload[0] = 1; /* the flags */
+    for (i = 0; i < bytes->len; i++)
+        payload[1 + i] = bytes->at[i];
+    return frame_of(DONGLORA_TX, payload, 1 + bytes->len);
+}
+
 /* All but b have a configured dongle that receives. The SET_CONFIG is that of P C.2.3. */
 static struct count ready(int what, struct count c)
 {
@@ -188,13 +202,7 @@ int main(void)
     size_t i;
     const struct bytes all = all_bytes();
     const struct bytes ping = frame_of(DONGLORA_PING, NULL, 0);
-    struct bytes tx;
-    uint8_t payload[256];
-
-    payload[0] = 1; /* the flags */
-    for (i = 0; i < all.len; i++)
-        payload[1 + i] = all.at[i];
-    tx = frame_of(DONGLORA_TX, payload, sizeof payload);
+    const struct bytes tx = tx_of(&all);
 
     donglora_power_up(control, run, commands, packets);
     c = ready(what, c);

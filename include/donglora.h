@@ -2,8 +2,9 @@
  * donglora.h: DongLoRa for C and C++: frames and messages for a host, and the whole dongle for
  * firmware.
  *
- * Link with libdonglora.a. Every function behind this header is proved to do what is said here,
- * for every input: see README.md.
+ * Link with libdonglora.a of the target: on x86-64 that of `rt staticlib`, on a microcontroller that of
+ * tools/cross. The header is the same for all of them. Every function behind it is proved to do what is
+ * said here, for every input: see README.md.
  *
  * The first part is for hosts, and for whatever works on captures. The second, "The dongle", is for
  * a board's main loop.
@@ -31,6 +32,17 @@
 
 #ifdef __cplusplus
 extern "C" {
+#endif
+
+/*
+ * The size of a block of memory, a number of 64 bits on every target. Where size_t has 64 bits it is
+ * size_t. On a smaller processor a size_t may be passed for it; what `written` points to, and what is
+ * kept of a length in a struct, is a donglora_size.
+ */
+#if SIZE_MAX == UINT64_MAX
+typedef size_t donglora_size;
+#else
+typedef uint64_t donglora_size;
 #endif
 
 /* The numbers that come back. */
@@ -81,7 +93,7 @@ extern "C" {
  * final xor (CRC-16/CCITT-FALSE). src may have any length. The check value of "123456789" is
  * 0x29B1; that of no bytes is 0xFFFF.
  */
-uint16_t donglora_crc16(const uint8_t *src, size_t src_len);
+uint16_t donglora_crc16(const uint8_t *src, donglora_size src_len);
 
 /*
  * Encodes src by COBS into dst, so that no byte of it is zero, and stores in *written how many
@@ -95,7 +107,8 @@ uint16_t donglora_crc16(const uint8_t *src, size_t src_len);
  *
  * A group of 254 bytes at the very end is followed by a closing 01. No bytes become 01.
  */
-uint8_t donglora_cobs_encode(const uint8_t *src, size_t src_len, uint8_t *dst, size_t dst_len, size_t *written);
+uint8_t donglora_cobs_encode(const uint8_t *src, donglora_size src_len, uint8_t *dst, donglora_size dst_len,
+                             donglora_size *written);
 
 /*
  * Decodes the COBS encoding src into dst, and stores in *written how many bytes that is. src has
@@ -111,7 +124,8 @@ uint8_t donglora_cobs_encode(const uint8_t *src, size_t src_len, uint8_t *dst, s
  * byte 01 becomes no bytes. 282 bytes can become 281, which is too long for a body: whoever reads
  * frames looks at *written.
  */
-uint8_t donglora_cobs_decode(const uint8_t *src, size_t src_len, uint8_t *dst, size_t dst_len, size_t *written);
+uint8_t donglora_cobs_decode(const uint8_t *src, donglora_size src_len, uint8_t *dst, donglora_size dst_len,
+                             donglora_size *written);
 
 /* Where a payload stands in a body, and the longest payload, which is that of an RX. */
 #define DONGLORA_PAYLOAD     3
@@ -139,8 +153,8 @@ uint8_t donglora_cobs_decode(const uint8_t *src, size_t src_len, uint8_t *dst, s
  * the types 0x80 and 0xC1 (OK and TX_DONE), where tag 0 is DONGLORA_TAG, and 0xC0 (RX), where any
  * other tag is.
  */
-uint8_t donglora_write_command(uint8_t type, uint16_t tag, const uint8_t *payload, size_t payload_len, uint8_t *dst,
-                               size_t dst_len, size_t *written);
+uint8_t donglora_write_command(uint8_t type, uint16_t tag, const uint8_t *payload, donglora_size payload_len,
+                               uint8_t *dst, donglora_size dst_len, donglora_size *written);
 
 /*
  * An answer, of whatever type. Where number is not DONGLORA_TAKEN the frame was refused, and all
@@ -148,9 +162,9 @@ uint8_t donglora_write_command(uint8_t type, uint16_t tag, const uint8_t *payloa
  */
 struct donglora_message {
     uint8_t number;
-    uint8_t type;       /* DONGLORA_OK, DONGLORA_ERR, DONGLORA_RX or DONGLORA_TX_DONE */
+    uint8_t type;              /* DONGLORA_OK, DONGLORA_ERR, DONGLORA_RX or DONGLORA_TX_DONE */
     uint16_t tag;
-    size_t payload_len; /* the payload is body[DONGLORA_PAYLOAD] and on */
+    donglora_size payload_len; /* the payload is body[DONGLORA_PAYLOAD] and on */
 };
 
 /*
@@ -173,8 +187,8 @@ struct donglora_message {
  *                    refuses so
  *   DONGLORA_TAKEN   done
  */
-struct donglora_message donglora_read_answer(uint8_t command, const uint8_t *run, size_t run_len, uint8_t *body,
-                                             size_t body_len);
+struct donglora_message donglora_read_answer(uint8_t command, const uint8_t *run, donglora_size run_len, uint8_t *body,
+                                             donglora_size body_len);
 
 /*
  * A received packet: what an RX says. Where number is not DONGLORA_TAKEN the frame was refused, and
@@ -190,7 +204,7 @@ struct donglora_rx {
     uint8_t crc_valid;        /* 0 where the packet's CRC failed; 1 also where it has none */
     uint16_t packets_dropped; /* since the RX before */
     uint8_t origin;           /* 0 over the air, 1 from the same device */
-    size_t packet_len;        /* the packet is body[DONGLORA_RX_PACKET] and on */
+    donglora_size packet_len; /* the packet is body[DONGLORA_RX_PACKET] and on */
 };
 
 /* Where the packet stands in the body of an RX. */
@@ -201,7 +215,7 @@ struct donglora_rx {
  * numbers are those of donglora_read_answer; DONGLORA_TYPE is any message that is no RX, and
  * DONGLORA_FORM a payload under 20 bytes, or a crc_valid or an origin over 1.
  */
-struct donglora_rx donglora_read_rx(const uint8_t *run, size_t run_len, uint8_t *body, size_t body_len);
+struct donglora_rx donglora_read_rx(const uint8_t *run, donglora_size run_len, uint8_t *body, donglora_size body_len);
 
 /*
  * The end of a transmission: what a TX_DONE says. Where number is not DONGLORA_TAKEN the frame was
@@ -220,7 +234,8 @@ struct donglora_tx_done {
  * DONGLORA_FORM a payload under 5 bytes or a result over 2. Bytes after the known fields are ignored,
  * and are in body too.
  */
-struct donglora_tx_done donglora_read_tx_done(const uint8_t *run, size_t run_len, uint8_t *body, size_t body_len);
+struct donglora_tx_done donglora_read_tx_done(const uint8_t *run, donglora_size run_len, uint8_t *body,
+                                              donglora_size body_len);
 
 /*
  * ---- The dongle ----
@@ -284,7 +299,8 @@ struct donglora_tx_done donglora_read_tx_done(const uint8_t *run, size_t run_len
  * own form by the first call, even by a refused one. From donglora_power_up on, a dongle that is
  * called in this way keeps the three demands that docs/ASSURANCE.md explains.
  *
- * examples/range/board.c is a board's firmware that does all this.
+ * examples/firmware is a board's firmware that does all this; examples/range/board.c has the same loop
+ * in a simulated range.
  */
 
 /* The numbers of words of the control array, and of bytes of the memories and of the output. */
@@ -321,35 +337,36 @@ void donglora_power_up(uint64_t control[DONGLORA_CONTROL], uint8_t run[DONGLORA_
 
 /* A byte has come from the host. */
 void donglora_byte(uint64_t control[DONGLORA_CONTROL], uint8_t b, uint8_t run[DONGLORA_RUN],
-                   uint8_t commands[DONGLORA_COMMANDS], uint8_t *out, size_t out_len, struct donglora_answer *answer);
+                   uint8_t commands[DONGLORA_COMMANDS], uint8_t *out, donglora_size out_len,
+                   struct donglora_answer *answer);
 
 /* A millisecond has passed. The thousandth without a frame from the host ends its session. */
-void donglora_tick(uint64_t control[DONGLORA_CONTROL], size_t out_len, struct donglora_answer *answer);
+void donglora_tick(uint64_t control[DONGLORA_CONTROL], donglora_size out_len, struct donglora_answer *answer);
 
 /* The host is gone. */
-void donglora_disconnect(uint64_t control[DONGLORA_CONTROL], size_t out_len, struct donglora_answer *answer);
+void donglora_disconnect(uint64_t control[DONGLORA_CONTROL], donglora_size out_len, struct donglora_answer *answer);
 
 /* The radio listened, and the channel is clear: the packet goes on air. */
-void donglora_clear(uint64_t control[DONGLORA_CONTROL], size_t out_len, struct donglora_answer *answer);
+void donglora_clear(uint64_t control[DONGLORA_CONTROL], donglora_size out_len, struct donglora_answer *answer);
 
 /* The radio listened, and the channel is busy: the packet is not sent. */
 void donglora_busy(uint64_t control[DONGLORA_CONTROL], const uint8_t commands[DONGLORA_COMMANDS], uint8_t *out,
-                   size_t out_len, struct donglora_answer *answer);
+                   donglora_size out_len, struct donglora_answer *answer);
 
 /* The packet has been sent, and took so many microseconds on air. */
 void donglora_sent(uint64_t control[DONGLORA_CONTROL], uint32_t airtime_us, const uint8_t commands[DONGLORA_COMMANDS],
-                   uint8_t *out, size_t out_len, struct donglora_answer *answer);
+                   uint8_t *out, donglora_size out_len, struct donglora_answer *answer);
 
 /* The radio is set up as the last DONGLORA_CONFIGURE said. */
 void donglora_configured(uint64_t control[DONGLORA_CONTROL], const uint8_t commands[DONGLORA_COMMANDS], uint8_t *out,
-                         size_t out_len, struct donglora_answer *answer);
+                         donglora_size out_len, struct donglora_answer *answer);
 
 /*
  * The radio has failed, whatever it did. The host is told by an ERR with DONGLORA_ERADIO; a TX that
  * was with the radio is reported as cancelled.
  */
 void donglora_fault(uint64_t control[DONGLORA_CONTROL], const uint8_t commands[DONGLORA_COMMANDS], uint8_t *out,
-                    size_t out_len, struct donglora_answer *answer);
+                    donglora_size out_len, struct donglora_answer *answer);
 
 /*
  * The status of a received packet. A struct, since rssi and snr are numbers of one type that
@@ -365,11 +382,12 @@ struct donglora_packet_status {
 
 /* The radio has received a packet. One over 255 bytes is cut, and counts as one whose CRC failed. */
 void donglora_packet(uint64_t control[DONGLORA_CONTROL], struct donglora_packet_status status, const uint8_t *bytes,
-                     size_t len, uint8_t packets[DONGLORA_PACKETS], size_t out_len, struct donglora_answer *answer);
+                     donglora_size len, uint8_t packets[DONGLORA_PACKETS], donglora_size out_len,
+                     struct donglora_answer *answer);
 
 /* The host can take a packet: the oldest that is held is written, as an RX, or nothing. */
 void donglora_request(uint64_t control[DONGLORA_CONTROL], uint8_t packets[DONGLORA_PACKETS], uint8_t *out,
-                      size_t out_len, struct donglora_answer *answer);
+                      donglora_size out_len, struct donglora_answer *answer);
 
 #ifdef __cplusplus
 }

@@ -59,7 +59,7 @@ static void bytes(const uint8_t *src, size_t len)
 static void command(uint8_t type, uint16_t tag, const char *payload, size_t len)
 {
     uint8_t frame[DONGLORA_FRAME_ROOM(DONGLORA_PAYLOAD_MAX)];
-    size_t n = 0;
+    donglora_size n = 0;
 
     CHECK(donglora_write_command(type, tag, (const uint8_t *)payload, len, frame, sizeof frame, &n) == DONGLORA_TAKEN);
     bytes(frame, n);
@@ -258,6 +258,10 @@ static void reads(uint8_t asked, const char *frame, size_t len, uint8_t number, 
 #define READS(asked, frame, number, type, tag, payload) \
     reads(asked, frame, sizeof frame - 1, number, type, tag, payload)
 
+/* The OK to a SET_CONFIG with tag 1: its result and owner in their groups, the configuration, the check value. */
+#define OK_CONFIG(values, check) \
+    "\x03\x80\x01" values "\x01\xA0\x27\xBE\x33\x07\x07\x02\x08\x04\x24\x14\x0E\x02\x01\x03" check
+
 /* Answers of 01's sheet, and what is none. */
 static void check_answers(void)
 {
@@ -265,6 +269,10 @@ static void check_answers(void)
     READS(DONGLORA_PING, "\x03\x80\x33\x01\x02\xA7", DONGLORA_TAKEN, DONGLORA_OK, 0x33, 0);
     READS(DONGLORA_SET_CONFIG, "\x03\x80\x01\x03\xF7\xC4", DONGLORA_FORM, 0, 0, 0);
     READS(DONGLORA_GET_INFO, "\x03\x80\x01\x03\xF7\xC4", DONGLORA_FORM, 0, 0, 0);
+    /* Result and owner are 2 at the most. */
+    READS(DONGLORA_SET_CONFIG, OK_CONFIG("\x0A\x02\x02", "\xCB\x3B"), DONGLORA_TAKEN, DONGLORA_OK, 1, 18);
+    READS(DONGLORA_SET_CONFIG, OK_CONFIG("\x0A\x03\x01", "\xDC\xFA"), DONGLORA_FORM, 0, 0, 0);
+    READS(DONGLORA_SET_CONFIG, OK_CONFIG("\x01\x09\x03", "\x6A\xDB"), DONGLORA_FORM, 0, 0, 0);
     READS(0, "\x03\x81\x28\x02\x03\x03\x53\x7E", DONGLORA_TAKEN, DONGLORA_ERR, 0x28, 2);
     READS(0, "\x03\xC1\x14\x02\x02\x01\x01\x01\x03\x82\xCF", DONGLORA_TAKEN, DONGLORA_TX_DONE, 0x14, 5);
     READS(0, "\x03\x01\x01\x03\x9D\xC8", DONGLORA_TYPE, 0, 0, 0);

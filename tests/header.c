@@ -64,7 +64,7 @@ static void check_frame(const struct frame *frame)
     const uint8_t *body = (const uint8_t *)frame->body;
     const uint8_t *encoding = (const uint8_t *)frame->encoding;
     uint8_t out[DONGLORA_ENCODED_MAX];
-    size_t n = 0;
+    donglora_size n = 0;
     uint16_t sum = (uint16_t)(body[frame->body_len - 2] | body[frame->body_len - 1] << 8);
 
     CHECK(donglora_crc16(body, frame->body_len - 2) == sum);
@@ -118,7 +118,7 @@ static void check_encode(void)
 {
     uint8_t src[DONGLORA_BODY_MAX + 1];
     uint8_t dst[DONGLORA_ENCODED_MAX + 1];
-    size_t n = 7;
+    donglora_size n = 7;
 
     memset(src, 0xAA, sizeof src);
     memset(dst, 0x55, sizeof dst);
@@ -143,7 +143,7 @@ static void check_decode(void)
 {
     uint8_t src[DONGLORA_ENCODED_MAX + 1];
     uint8_t dst[DONGLORA_ENCODED_MAX + 1];
-    size_t n = 7;
+    donglora_size n = 7;
 
     memset(src, 0x01, sizeof src);
     memset(dst, 0x55, sizeof dst);
@@ -182,7 +182,7 @@ static void check_fields(void)
 
     CHECK(sizeof rx.number == 1 && sizeof rx.rssi == 2 && sizeof rx.snr == 2 && sizeof rx.freq_err == 4);
     CHECK(sizeof rx.timestamp_us == 8 && sizeof rx.crc_valid == 1 && sizeof rx.packets_dropped == 2);
-    CHECK(sizeof rx.origin == 1 && sizeof rx.packet_len == sizeof(size_t));
+    CHECK(sizeof rx.origin == 1 && sizeof rx.packet_len == 8);
     CHECK(sizeof done.number == 1 && sizeof done.tag == 2 && sizeof done.result == 1 && sizeof done.airtime_us == 4);
 
     /* All bits set: -1 in what is signed, the largest in what is not. */
@@ -190,7 +190,7 @@ static void check_fields(void)
     memset(&done, 0xFF, sizeof done);
     CHECK(rx.rssi == -1 && rx.snr == -1 && rx.freq_err == -1);
     CHECK(rx.number == 0xFF && rx.timestamp_us == UINT64_MAX && rx.crc_valid == 0xFF);
-    CHECK(rx.packets_dropped == 0xFFFF && rx.origin == 0xFF && rx.packet_len == SIZE_MAX);
+    CHECK(rx.packets_dropped == 0xFFFF && rx.origin == 0xFF && rx.packet_len == UINT64_MAX);
     CHECK(done.number == 0xFF && done.tag == 0xFFFF && done.result == 0xFF && done.airtime_us == UINT32_MAX);
 }
 
@@ -208,7 +208,7 @@ static size_t make_run(uint8_t type, uint16_t tag, const void *payload, size_t l
 {
     uint8_t body[DONGLORA_BODY_MAX] = {type, (uint8_t)(tag & 0xFF), (uint8_t)(tag >> 8)};
     uint16_t sum;
-    size_t n = 0;
+    donglora_size n = 0;
 
     if (len > 0)
         memcpy(body + DONGLORA_PAYLOAD, payload, len);
@@ -328,7 +328,7 @@ static void check_extremes(void)
     uint8_t body[DONGLORA_ENCODED_MAX];
     struct donglora_rx rx;
     struct donglora_tx_done done;
-    size_t n;
+    donglora_size n;
 
     n = make_run(0xC0, 0,
                  "\x00\x80\xFF\x7F\x00\x00\x00\x80\xFF\xFF\xFF\xFF\xFF\xFF\xFF\xFF\x00\xFF\xFF\x01", 20, run);
@@ -427,7 +427,7 @@ static void check_command(int line, uint8_t type, uint16_t tag, const char *payl
     const size_t rooms[] = {DONGLORA_FRAME_ROOM(len), sizeof dst};
 
     for (size_t i = 0; i < 2; i++) {
-        size_t n = 0;
+        donglora_size n = 0;
         memset(dst, 0x55, sizeof dst);
         check(donglora_write_command(type, tag, bytes(payload), len, dst, rooms[i], &n) == DONGLORA_TAKEN,
               "the command is taken", line);
@@ -444,7 +444,7 @@ static void check_no_command(int line, uint8_t type, uint16_t tag, const void *p
                              int number)
 {
     uint8_t dst[DONGLORA_FRAME_ROOM(DONGLORA_PAYLOAD_MAX)];
-    size_t n = 7;
+    donglora_size n = 7;
 
     memset(dst, 0x55, sizeof dst);
     check(donglora_write_command(type, tag, (const uint8_t *)payload, len, room == 0 ? NULL : dst, room, &n) == number,
@@ -460,7 +460,7 @@ static void check_commands(void)
     uint8_t payload[DONGLORA_PAYLOAD_MAX];
     const size_t all = DONGLORA_FRAME_ROOM(DONGLORA_PAYLOAD_MAX);
     uint8_t dst[DONGLORA_FRAME_ROOM(DONGLORA_PAYLOAD_MAX)];
-    size_t n = 7;
+    donglora_size n = 7;
 
     /* P's frames: C.2.1, C.2.2, C.2.3, C.2.4, C.2.5, C.2.6 and C.8.1. */
     COMMAND(DONGLORA_PING, 0x0001, "", "\x03\x01\x01\x03\x9D\xC8\x00");

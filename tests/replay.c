@@ -274,6 +274,7 @@ static void note(const struct donglora_answer *a)
 static void step(const struct item *item, uint8_t b)
 {
     struct donglora_answer a;
+    memset(&a, 0xA5, sizeof a); /* each event writes it whole */
     switch (item->kind) {
     case BYTE: donglora_byte(control, b, run, commands, out, room, &a); break;
     case TICK: donglora_tick(control, room, &a); break;

@@ -1,6 +1,6 @@
 //! Check value and COBS.
 
-use crate::ffi;
+use crate::ffi::{self, size};
 use crate::Refusal;
 
 /// The longest body.
@@ -47,7 +47,7 @@ pub fn crc16(src: &[u8]) -> u16 {
 pub fn cobs_encode<'a>(src: &[u8], dst: &'a mut [u8]) -> Result<&'a [u8], Refusal> {
     let (number, written) = ffi::cobs_encode(src, dst);
     Refusal::check(number.into())?;
-    Ok(start(dst, written))
+    Ok(start(dst, size(written)))
 }
 
 /// Decodes the COBS encoding `src` at the start of `dst`, and answers the bytes that were written.
@@ -66,7 +66,7 @@ pub fn cobs_encode<'a>(src: &[u8], dst: &'a mut [u8]) -> Result<&'a [u8], Refusa
 pub fn cobs_decode<'a>(src: &[u8], dst: &'a mut [u8]) -> Result<&'a [u8], Refusal> {
     let (number, written) = ffi::cobs_decode(src, dst);
     Refusal::check(number.into())?;
-    Ok(start(dst, written))
+    Ok(start(dst, size(written)))
 }
 
 /// The first `len` bytes. The library never answers more than there are; if it did, there would be

@@ -1,7 +1,7 @@
 //! The dongle, for a board's main loop.
 
 use crate::codec::{part, start};
-use crate::ffi;
+use crate::ffi::{self, size};
 use crate::Refusal;
 use core::fmt;
 
@@ -270,9 +270,4 @@ impl fmt::Debug for Dongle {
     fn fmt(&self, f: &mut fmt::Formatter<'_>) -> fmt::Result {
         f.debug_struct("Dongle").finish_non_exhaustive()
     }
-}
-
-/// A count of bytes. One that is no usize would be no count of bytes here.
-fn size(n: u64) -> usize {
-    usize::try_from(n).unwrap_or(usize::MAX)
 }

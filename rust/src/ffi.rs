@@ -8,13 +8,16 @@
 
 use crate::dongle::{COMMANDS, CONTROL, PACKETS, RUN};
 
+/// donglora_size: 64 bits on every target.
+pub(crate) type Size = u64;
+
 /// struct donglora_message
 #[repr(C)]
 pub(crate) struct Message {
     pub(crate) number: u8,
     pub(crate) kind: u8,
     pub(crate) tag: u16,
-    pub(crate) payload_len: usize,
+    pub(crate) payload_len: Size,
 }
 
 /// struct donglora_rx
@@ -28,7 +31,7 @@ pub(crate) struct Rx {
     pub(crate) crc_valid: u8,
     pub(crate) packets_dropped: u16,
     pub(crate) origin: u8,
-    pub(crate) packet_len: usize,
+    pub(crate) packet_len: Size,
 }
 
 /// struct donglora_tx_done
@@ -64,43 +67,43 @@ pub(crate) struct PacketStatus {
 }
 
 extern "C" {
-    fn donglora_crc16(src: *const u8, src_len: usize) -> u16;
+    fn donglora_crc16(src: *const u8, src_len: Size) -> u16;
     fn donglora_cobs_encode(
         src: *const u8,
-        src_len: usize,
+        src_len: Size,
         dst: *mut u8,
-        dst_len: usize,
-        written: *mut usize,
+        dst_len: Size,
+        written: *mut Size,
     ) -> u8;
     fn donglora_cobs_decode(
         src: *const u8,
-        src_len: usize,
+        src_len: Size,
         dst: *mut u8,
-        dst_len: usize,
-        written: *mut usize,
+        dst_len: Size,
+        written: *mut Size,
     ) -> u8;
     fn donglora_write_command(
         kind: u8,
         tag: u16,
         payload: *const u8,
-        payload_len: usize,
+        payload_len: Size,
         dst: *mut u8,
-        dst_len: usize,
-        written: *mut usize,
+        dst_len: Size,
+        written: *mut Size,
     ) -> u8;
     fn donglora_read_answer(
         command: u8,
         run: *const u8,
-        run_len: usize,
+        run_len: Size,
         body: *mut u8,
-        body_len: usize,
+        body_len: Size,
     ) -> Message;
-    fn donglora_read_rx(run: *const u8, run_len: usize, body: *mut u8, body_len: usize) -> Rx;
+    fn donglora_read_rx(run: *const u8, run_len: Size, body: *mut u8, body_len: Size) -> Rx;
     fn donglora_read_tx_done(
         run: *const u8,
-        run_len: usize,
+        run_len: Size,
         body: *mut u8,
-        body_len: usize,
+        body_len: Size,
     ) -> TxDone;
     fn donglora_power_up(control: *mut u64, run: *mut u8, commands: *mut u8, packets: *mut u8);
     fn donglora_byte(
@@ -109,17 +112,17 @@ extern "C" {
         run: *mut u8,
         commands: *mut u8,
         out: *mut u8,
-        out_len: usize,
+        out_len: Size,
         answer: *mut Answer,
     );
-    fn donglora_tick(control: *mut u64, out_len: usize, answer: *mut Answer);
-    fn donglora_disconnect(control: *mut u64, out_len: usize, answer: *mut Answer);
-    fn donglora_clear(control: *mut u64, out_len: usize, answer: *mut Answer);
+    fn donglora_tick(control: *mut u64, out_len: Size, answer: *mut Answer);
+    fn donglora_disconnect(control: *mut u64, out_len: Size, answer: *mut Answer);
+    fn donglora_clear(control: *mut u64, out_len: Size, answer: *mut Answer);
     fn donglora_busy(
         control: *mut u64,
         commands: *const u8,
         out: *mut u8,
-        out_len: usize,
+        out_len: Size,
         answer: *mut Answer,
     );
     fn donglora_sent(
@@ -127,69 +130,79 @@ extern "C" {
         airtime_us: u32,
         commands: *const u8,
         out: *mut u8,
-        out_len: usize,
+        out_len: Size,
         answer: *mut Answer,
     );
     fn donglora_configured(
         control: *mut u64,
         commands: *const u8,
         out: *mut u8,
-        out_len: usize,
+        out_len: Size,
         answer: *mut Answer,
     );
     fn donglora_fault(
         control: *mut u64,
         commands: *const u8,
         out: *mut u8,
-        out_len: usize,
+        out_len: Size,
         answer: *mut Answer,
     );
     fn donglora_packet(
         control: *mut u64,
         status: PacketStatus,
         bytes: *const u8,
-        len: usize,
+        len: Size,
         packets: *mut u8,
-        out_len: usize,
+        out_len: Size,
         answer: *mut Answer,
     );
     fn donglora_request(
         control: *mut u64,
         packets: *mut u8,
         out: *mut u8,
-        out_len: usize,
+        out_len: Size,
         answer: *mut Answer,
     );
 }
 
+/// The length of a slice, as the library has it.
+fn len_of(slice: &[u8]) -> Size {
+    slice.len() as Size
+}
+
+/// A count of bytes. One that is no usize would be no count of bytes here.
+pub(crate) fn size(n: Size) -> usize {
+    usize::try_from(n).unwrap_or(usize::MAX)
+}
+
 pub(crate) fn crc16(src: &[u8]) -> u16 {
     // SAFETY: the source is a slice.
-    unsafe { donglora_crc16(src.as_ptr(), src.len()) }
+    unsafe { donglora_crc16(src.as_ptr(), len_of(src)) }
 }
 
 /// The number, and how many bytes were written.
-pub(crate) fn cobs_encode(src: &[u8], dst: &mut [u8]) -> (u8, usize) {
+pub(crate) fn cobs_encode(src: &[u8], dst: &mut [u8]) -> (u8, Size) {
     let mut written = 0;
-    let (to, room) = (dst.as_mut_ptr(), dst.len());
+    let (to, room) = (dst.as_mut_ptr(), len_of(dst));
     // SAFETY: source and destination are slices, and a shared one and a mutable one do not overlap.
-    let number = unsafe { donglora_cobs_encode(src.as_ptr(), src.len(), to, room, &mut written) };
+    let number = unsafe { donglora_cobs_encode(src.as_ptr(), len_of(src), to, room, &mut written) };
     (number, written)
 }
 
 /// The number, and how many bytes were written.
-pub(crate) fn cobs_decode(src: &[u8], dst: &mut [u8]) -> (u8, usize) {
+pub(crate) fn cobs_decode(src: &[u8], dst: &mut [u8]) -> (u8, Size) {
     let mut written = 0;
-    let (to, room) = (dst.as_mut_ptr(), dst.len());
+    let (to, room) = (dst.as_mut_ptr(), len_of(dst));
     // SAFETY: source and destination are slices, and a shared one and a mutable one do not overlap.
-    let number = unsafe { donglora_cobs_decode(src.as_ptr(), src.len(), to, room, &mut written) };
+    let number = unsafe { donglora_cobs_decode(src.as_ptr(), len_of(src), to, room, &mut written) };
     (number, written)
 }
 
 /// The number, and how many bytes were written.
-pub(crate) fn write_command(kind: u8, tag: u16, payload: &[u8], dst: &mut [u8]) -> (u8, usize) {
+pub(crate) fn write_command(kind: u8, tag: u16, payload: &[u8], dst: &mut [u8]) -> (u8, Size) {
     let mut written = 0;
-    let (from, len) = (payload.as_ptr(), payload.len());
-    let (to, room) = (dst.as_mut_ptr(), dst.len());
+    let (from, len) = (payload.as_ptr(), len_of(payload));
+    let (to, room) = (dst.as_mut_ptr(), len_of(dst));
     // SAFETY: payload and destination are slices, and a shared one and a mutable one do not
     // overlap.
     let number = unsafe { donglora_write_command(kind, tag, from, len, to, room, &mut written) };
@@ -197,20 +210,20 @@ pub(crate) fn write_command(kind: u8, tag: u16, payload: &[u8], dst: &mut [u8]) 
 }
 
 pub(crate) fn read_answer(command: u8, run: &[u8], body: &mut [u8]) -> Message {
-    let (to, room) = (body.as_mut_ptr(), body.len());
+    let (to, room) = (body.as_mut_ptr(), len_of(body));
     // SAFETY: run and body are slices, and a shared one and a mutable one do not overlap. The
     // struct that comes back has numbers alone.
-    unsafe { donglora_read_answer(command, run.as_ptr(), run.len(), to, room) }
+    unsafe { donglora_read_answer(command, run.as_ptr(), len_of(run), to, room) }
 }
 
 pub(crate) fn read_rx(run: &[u8], body: &mut [u8]) -> Rx {
     // SAFETY: as in read_answer.
-    unsafe { donglora_read_rx(run.as_ptr(), run.len(), body.as_mut_ptr(), body.len()) }
+    unsafe { donglora_read_rx(run.as_ptr(), len_of(run), body.as_mut_ptr(), len_of(body)) }
 }
 
 pub(crate) fn read_tx_done(run: &[u8], body: &mut [u8]) -> TxDone {
     // SAFETY: as in read_answer.
-    unsafe { donglora_read_tx_done(run.as_ptr(), run.len(), body.as_mut_ptr(), body.len()) }
+    unsafe { donglora_read_tx_done(run.as_ptr(), len_of(run), body.as_mut_ptr(), len_of(body)) }
 }
 
 /// The control array of a dongle, as the events have it.
@@ -236,7 +249,7 @@ pub(crate) fn byte(
 ) -> Answer {
     let mut answer = Answer::default();
     let (control, run) = (control.as_mut_ptr(), run.as_mut_ptr());
-    let (commands, to, room) = (commands.as_mut_ptr(), out.as_mut_ptr(), out.len());
+    let (commands, to, room) = (commands.as_mut_ptr(), out.as_mut_ptr(), len_of(out));
     // SAFETY: the arrays have the header's sizes, the output is a slice, and mutable ones do not
     // overlap. The answer is on this stack, and has numbers alone.
     unsafe { donglora_byte(control, b, run, commands, to, room, &mut answer) }
@@ -246,29 +259,30 @@ pub(crate) fn byte(
 pub(crate) fn tick(control: &mut Control, room: usize) -> Answer {
     let mut answer = Answer::default();
     // SAFETY: the array has the header's size, and the answer is on this stack. `room` is a number.
-    unsafe { donglora_tick(control.as_mut_ptr(), room, &mut answer) }
+    unsafe { donglora_tick(control.as_mut_ptr(), room as Size, &mut answer) }
     answer
 }
 
 pub(crate) fn disconnect(control: &mut Control, room: usize) -> Answer {
     let mut answer = Answer::default();
     // SAFETY: as in tick.
-    unsafe { donglora_disconnect(control.as_mut_ptr(), room, &mut answer) }
+    unsafe { donglora_disconnect(control.as_mut_ptr(), room as Size, &mut answer) }
     answer
 }
 
 pub(crate) fn clear(control: &mut Control, room: usize) -> Answer {
     let mut answer = Answer::default();
     // SAFETY: as in tick.
-    unsafe { donglora_clear(control.as_mut_ptr(), room, &mut answer) }
+    unsafe { donglora_clear(control.as_mut_ptr(), room as Size, &mut answer) }
     answer
 }
 
 pub(crate) fn busy(control: &mut Control, commands: &[u8; COMMANDS], out: &mut [u8]) -> Answer {
     let mut answer = Answer::default();
     let (control, commands) = (control.as_mut_ptr(), commands.as_ptr());
+    let (to, room) = (out.as_mut_ptr(), len_of(out));
     // SAFETY: as in byte; the commands are only read.
-    unsafe { donglora_busy(control, commands, out.as_mut_ptr(), out.len(), &mut answer) }
+    unsafe { donglora_busy(control, commands, to, room, &mut answer) }
     answer
 }
 
@@ -280,7 +294,7 @@ pub(crate) fn sent(
 ) -> Answer {
     let mut answer = Answer::default();
     let (control, commands) = (control.as_mut_ptr(), commands.as_ptr());
-    let (to, room) = (out.as_mut_ptr(), out.len());
+    let (to, room) = (out.as_mut_ptr(), len_of(out));
     // SAFETY: as in busy.
     unsafe { donglora_sent(control, airtime_us, commands, to, room, &mut answer) }
     answer
@@ -293,16 +307,18 @@ pub(crate) fn configured(
 ) -> Answer {
     let mut answer = Answer::default();
     let (control, commands) = (control.as_mut_ptr(), commands.as_ptr());
+    let (to, room) = (out.as_mut_ptr(), len_of(out));
     // SAFETY: as in busy.
-    unsafe { donglora_configured(control, commands, out.as_mut_ptr(), out.len(), &mut answer) }
+    unsafe { donglora_configured(control, commands, to, room, &mut answer) }
     answer
 }
 
 pub(crate) fn fault(control: &mut Control, commands: &[u8; COMMANDS], out: &mut [u8]) -> Answer {
     let mut answer = Answer::default();
     let (control, commands) = (control.as_mut_ptr(), commands.as_ptr());
+    let (to, room) = (out.as_mut_ptr(), len_of(out));
     // SAFETY: as in busy.
-    unsafe { donglora_fault(control, commands, out.as_mut_ptr(), out.len(), &mut answer) }
+    unsafe { donglora_fault(control, commands, to, room, &mut answer) }
     answer
 }
 
@@ -315,7 +331,7 @@ pub(crate) fn packet(
 ) -> Answer {
     let mut answer = Answer::default();
     let (control, packets) = (control.as_mut_ptr(), packets.as_mut_ptr());
-    let (from, len) = (bytes.as_ptr(), bytes.len());
+    let (from, len, room) = (bytes.as_ptr(), len_of(bytes), room as Size);
     // SAFETY: the arrays have the header's sizes, the packet is a slice that is only read, and none
     // overlaps a mutable one. The answer is on this stack.
     unsafe { donglora_packet(control, status, from, len, packets, room, &mut answer) }
@@ -329,7 +345,8 @@ pub(crate) fn request(
 ) -> Answer {
     let mut answer = Answer::default();
     let (control, packets) = (control.as_mut_ptr(), packets.as_mut_ptr());
+    let (to, room) = (out.as_mut_ptr(), len_of(out));
     // SAFETY: as in byte.
-    unsafe { donglora_request(control, packets, out.as_mut_ptr(), out.len(), &mut answer) }
+    unsafe { donglora_request(control, packets, to, room, &mut answer) }
     answer
 }

@@ -1,7 +1,7 @@
 //! Messages, as a host sees them: commands are written, answers are read.
 
 use crate::codec::{encoded_room, part, start};
-use crate::ffi;
+use crate::ffi::{self, size};
 use crate::Refusal;
 
 /// Where a payload stands in a body.
@@ -144,7 +144,7 @@ pub fn write_command<'a>(
 ) -> Result<&'a [u8], Refusal> {
     let (number, written) = ffi::write_command(command as u8, tag, payload, dst);
     Refusal::check(number.into())?;
-    Ok(start(dst, written))
+    Ok(start(dst, size(written)))
 }
 
 /// Reads `run`, the frame of an answer without its zero, and puts its body, from the type to the
@@ -181,7 +181,7 @@ pub fn read_answer<'a>(
     Ok(Message {
         kind,
         tag: message.tag,
-        payload: part(body, PAYLOAD, message.payload_len),
+        payload: part(body, PAYLOAD, size(message.payload_len)),
     })
 }
 
@@ -205,7 +205,7 @@ pub fn read_rx<'a>(run: &[u8], body: &'a mut [u8]) -> Result<Rx<'a>, Refusal> {
             0 => Origin::Air,
             _ => Origin::Device, // 1: the library takes no other
         },
-        packet: part(body, RX_PACKET, rx.packet_len),
+        packet: part(body, RX_PACKET, size(rx.packet_len)),
     })
 }
 
