@@ -40,10 +40,12 @@ void radio_start(void)
     sx1262_start();
 }
 
+/* Every order begins so: what the chip did has ended, and what it has to tell of that is forgotten. */
 void radio_standby(void)
 {
     doing = IDLE;
     sx1262_set_standby();
+    sx1262_clear_irq_status(SX1262_ALL);
 }
 
 /* LoRa's parameters, as P 10.1 lays them out. */
@@ -74,9 +76,9 @@ void radio_configure(const uint8_t *parameters, int ldro)
 {
     const uint8_t *p = parameters + 1;
 
+    radio_standby();
     doing = CONFIGURING;
     type = parameters[0] == 1 ? SX1262_LORA : SX1262_GFSK;
-    sx1262_set_standby();
     sx1262_set_packet_type(type);
     sx1262_set_rf_frequency(u32_at(p));
     if (type == SX1262_LORA)
@@ -98,7 +100,7 @@ static void set_length(uint8_t len)
 
 void radio_transmit(const uint8_t *bytes, uint8_t len, int listen)
 {
-    sx1262_set_standby();
+    radio_standby();
     set_length(len);
     sx1262_write_buffer(bytes, len);
     if (!listen) {
@@ -117,34 +119,35 @@ void radio_send(void)
 
 void radio_receive(void)
 {
-    doing = RECEIVING;
-    sx1262_set_standby();
+    radio_standby();
     set_length(sizeof packet);
+    doing = RECEIVING;
     sx1262_set_rx();
 }
 
-/* The chip's bits for one thing are seen, and cleared. */
-static int has(uint16_t irq, uint16_t bits)
+/* Whether the chip has a bit set; then all that it has to tell is taken. */
+static int take_irq(uint16_t irq, uint16_t bit)
 {
-    if (!(irq & bits))
+    if (!(irq & bit))
         return 0;
     sx1262_clear_irq_status(irq);
     return 1;
 }
 
-static enum radio_event listened(uint16_t irq, int room)
+/* The chip has listened: a clear channel is told at once, since the packet waits for it. */
+static enum radio_event cad_event(uint16_t irq, int room)
 {
     if ((irq & SX1262_CAD_DETECTED) && !room)
         return RADIO_NOTHING;
-    if (!has(irq, SX1262_CAD_DONE))
+    if (!take_irq(irq, SX1262_CAD_DONE))
         return RADIO_NOTHING;
     doing = IDLE;
     return irq & SX1262_CAD_DETECTED ? RADIO_BUSY : RADIO_CLEAR;
 }
 
-static enum radio_event was_received(uint16_t irq)
+static enum radio_event rx_event(uint16_t irq)
 {
-    if (!has(irq, SX1262_RX_DONE))
+    if (!take_irq(irq, SX1262_RX_DONE))
         return RADIO_NOTHING;
     received = sx1262_get_packet_status();
     sx1262_read_buffer(received.start, packet, received.len);
@@ -152,19 +155,15 @@ static enum radio_event was_received(uint16_t irq)
     return RADIO_RECEIVED;
 }
 
-/* What ends with this event, where the radio was at work. */
-static enum radio_event ends(int ended, int room, enum radio_event event)
+/* The event of what has ended. */
+static enum radio_event ended(enum radio_event event)
 {
-    if (!ended || !room)
-        return RADIO_NOTHING;
     doing = IDLE;
     return event;
 }
 
 enum radio_event radio_next(int room)
 {
-    uint16_t irq;
-
     if (sx1262_get_device_errors()) {
         if (!room)
             return RADIO_NOTHING;
@@ -172,16 +171,15 @@ enum radio_event radio_next(int room)
         radio_standby();
         return RADIO_FAILED;
     }
-    irq = sx1262_get_irq_status();
     switch (doing) {
     case CONFIGURING:
-        return ends(!sx1262_busy(), room, RADIO_CONFIGURED);
+        return room && !sx1262_busy() ? ended(RADIO_CONFIGURED) : RADIO_NOTHING;
     case LISTENING:
-        return listened(irq, room);
+        return cad_event(sx1262_get_irq_status(), room);
     case SENDING:
-        return ends(irq & SX1262_TX_DONE, room, RADIO_SENT);
+        return room && take_irq(sx1262_get_irq_status(), SX1262_TX_DONE) ? ended(RADIO_SENT) : RADIO_NOTHING;
     case RECEIVING:
-        return was_received(irq);
+        return rx_event(sx1262_get_irq_status());
     default:
         return RADIO_NOTHING;
     }

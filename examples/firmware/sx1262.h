@@ -18,6 +18,7 @@
 #define SX1262_CRC_ERR      (1u << 6)
 #define SX1262_CAD_DONE     (1u << 7)
 #define SX1262_CAD_DETECTED (1u << 8)
+#define SX1262_ALL          0xFFFFu
 
 /* WriteRegister: where LoRa's sync word and FSK's stand. */
 #define SX1262_LORA_SYNC_WORD 0x0740

@@ -38,63 +38,66 @@ static struct {
 struct uart air;
 static int channel_busy;
 
-/* What of a message in the air has come, and what goes out. */
+/* The message in the air of which so many bytes have been taken, and the one that is put there. */
 static uint8_t header[HEADER];
-static unsigned came;
-static uint8_t going[HEADER + PACKET_MAX];
+static unsigned taken;
+static int heard; /* the chip has received since it began */
+static uint8_t sent[HEADER + PACKET_MAX];
 
 void sx1262_start(void)
 {
     uart_start(&air, BOARD_UART1, BOARD_UART1_RECEIVED, BOARD_UART1_SENT);
 }
 
-/* The packet's last byte has come. Its CRC decides whether it is whole; a chip that went on does not hear it. */
-static void heard(void)
+/* The packet's last byte was taken. */
+static void end_packet(void)
 {
-    if (chip.mode != RX)
+    if (!heard)
         return;
     chip.received = (struct sx1262_received){.rssi = header[2], .snr = (int8_t)header[3], .len = header[1]};
     chip.irq |= SX1262_RX_DONE | (header[4] == 0 ? SX1262_CRC_ERR : 0);
 }
 
-/* A byte of a message. */
-static void hear(uint8_t byte)
+/* Takes a byte of a message. */
+static void take_air(uint8_t byte)
 {
-    if (came >= HEADER && chip.mode == RX)
-        chip.memory[came - HEADER] = byte;
-    if (came < HEADER)
-        header[came] = byte;
-    came++;
+    if (taken == 0)
+        heard = chip.mode == RX;
+    if (taken < HEADER)
+        header[taken] = byte;
+    else if (heard)
+        chip.memory[taken - HEADER] = byte;
+    taken++;
     if (header[0] == 'P') {
-        if (came < HEADER || came < HEADER + (unsigned)header[1])
+        if (taken < HEADER || taken < HEADER + (unsigned)header[1])
             return;
-        heard();
+        end_packet();
     }
     channel_busy = header[0] == 'B' || (channel_busy && header[0] != 'C');
     chip.errors |= header[0] == 'F';
-    came = 0;
+    taken = 0;
 }
 
-/* What was sent goes into the air, unless what went before is still there. */
-static void say(void)
+/* Puts what was sent into the air, unless what was put there before has not gone yet. */
+static void put_on_air(void)
 {
     uint8_t len = chip.type == SX1262_LORA ? chip.lora_packet.len : chip.gfsk_packet.len;
     const uint8_t head[HEADER] = {'P', len, SENT_RSSI, SENT_SNR, 1};
 
     if (uart_sending(&air))
         return;
-    memcpy(going, head, HEADER);
-    memcpy(going + HEADER, chip.memory, len);
-    uart_send(&air, going, (size_t)HEADER + len);
+    memcpy(sent, head, HEADER);
+    memcpy(sent + HEADER, chip.memory, len);
+    uart_send(&air, sent, (size_t)HEADER + len);
 }
 
 /* Time goes by: what the chip has come to. A packet that was heard stays until its bits are cleared. */
-static void go_on(void)
+static void update(void)
 {
     int byte;
 
     while (!(chip.irq & SX1262_RX_DONE) && (byte = uart_next(&air)) >= 0) {
-        hear((uint8_t)byte);
+        take_air((uint8_t)byte);
         uart_drop(&air);
     }
     if ((chip.mode != CAD && chip.mode != TX) || clock_us() < chip.until_us)
@@ -103,17 +106,17 @@ static void go_on(void)
         chip.irq |= SX1262_CAD_DONE | (channel_busy ? SX1262_CAD_DETECTED : 0);
     } else {
         chip.irq |= SX1262_TX_DONE;
-        say();
+        put_on_air();
     }
     chip.mode = STANDBY;
 }
 
-/* The chip does this from now on, and the bits of what it did before are gone. */
+/* The chip does this from now on. Bits that tell of what it did before stay until they are cleared. */
 static void begin(enum mode mode, uint32_t us)
 {
     chip.mode = mode;
     chip.until_us = clock_us() + us;
-    chip.irq = 0;
+    heard = 0;
 }
 
 int sx1262_busy(void)
@@ -123,7 +126,7 @@ int sx1262_busy(void)
 
 int sx1262_get_device_errors(void)
 {
-    go_on();
+    update();
     return chip.errors;
 }
 
@@ -211,7 +214,7 @@ void sx1262_set_rx(void)
 
 uint16_t sx1262_get_irq_status(void)
 {
-    go_on();
+    update();
     return chip.irq;
 }
 

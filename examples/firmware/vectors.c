@@ -6,7 +6,7 @@
 #include "main.h"
 #include "sx1262_simulated.h"
 
-/* Where the linker script has put .data, in flash and in RAM, and .bss; and the end of the stack, which is no function. */
+/* Where the linker script has put .data, in flash and in RAM, .bss, and the end of the stack, which is no function. */
 extern uint32_t data_in_flash[], data_start[], data_end[], bss_start[], bss_end[];
 void stack_end(void);
 void reset(void);

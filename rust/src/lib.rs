@@ -92,8 +92,8 @@
 //!
 //! # Linking
 //!
-//! The archive is for x86-64. With cargo, `build.rs` finds it in `target/staticlib` of the
-//! repository, or in the folder that `DONGLORA_LIB_DIR` names. Without cargo:
+//! With cargo, `build.rs` finds the archive for x86-64 in `target/staticlib` of the repository, or an
+//! archive in the folder that `DONGLORA_LIB_DIR` names. Without cargo:
 //!
 //! ```text
 //! rustc --edition 2021 -O --crate-type lib --crate-name donglora rust/src/lib.rs
