@@ -8,6 +8,7 @@
  *   b: 255 bytes that are not zero, and a disconnect     t: 999 ticks, and a PING
  *   p: a PING                                            x: a TX with 255 bytes, and its sent
  *   k: a packet of 255 bytes is taken                    d: it is taken and delivered
+ *   e: each event in a usual case, from a new session to its end; crates/benchmark has no such work
  *
  * bench/cortex.c takes these functions in, and has a main of its own.
  */
@@ -116,6 +117,54 @@ static struct count hear(struct count c, const struct bytes *bytes)
     return add(c);
 }
 
+/* The dongle is configured, and receives. The SET_CONFIG is that of P C.2.3. */
+static struct count receive(struct count c)
+{
+    static const uint8_t lora[] = {0x01, 0xA0, 0x27, 0xBE, 0x33, 0x07, 0x07, 0x00,
+                                   0x08, 0x00, 0x24, 0x14, 0x0E, 0x00, 0x01, 0x00};
+    struct bytes frame = frame_of(DONGLORA_SET_CONFIG, lora, sizeof lora);
+
+    c = feed(c, &frame);
+    donglora_configured(control, commands, out, sizeof out, &answer);
+    frame = frame_of(DONGLORA_RX_START, NULL, 0);
+    return feed(add(c), &frame);
+}
+
+/* The frame of a TX with these bytes and flags. */
+static struct bytes tx_of(uint8_t flags, const struct bytes *bytes)
+{
+    uint8_t payload[256];
+    size_t i;
+
+    payload[0] = flags;
+    for (i = 0; i < bytes->len; i++)
+        payload[1 + i] = bytes->at[i];
+    return frame_of(DONGLORA_TX, payload, 1 + bytes->len);
+}
+
+/* A session with all events. Three TX listen first: one is sent, one meets a busy channel, one fails. */
+static struct count one_of_each(struct count c, const struct bytes *bytes)
+{
+    const struct bytes tx = tx_of(0, bytes);
+
+    c = receive(c);
+    c = feed(c, &tx);
+    donglora_clear(control, sizeof out, &answer);
+    c = add(c);
+    donglora_sent(control, 1000, commands, out, sizeof out, &answer);
+    c = feed(add(c), &tx);
+    donglora_busy(control, commands, out, sizeof out, &answer);
+    c = feed(add(c), &tx);
+    donglora_fault(control, commands, out, sizeof out, &answer);
+    c = hear(add(c), bytes);
+    donglora_request(control, packets, out, sizeof out, &answer);
+    c = add(c);
+    donglora_tick(control, sizeof out, &answer);
+    c = add(c);
+    donglora_disconnect(control, sizeof out, &answer);
+    return add(c);
+}
+
 /* One round of the work that a letter names: ping and tx are frames, and bytes has 255 bytes. */
 static struct count turn(int what, struct count c, const struct bytes *ping,
                          const struct bytes *tx, const struct bytes *bytes)
@@ -135,6 +184,8 @@ static struct count turn(int what, struct count c, const struct bytes *ping,
         return add(c);
     case 'k':
         return hear(c, bytes);
+    case 'e':
+        return one_of_each(c, bytes);
     default:
         c = hear(c, bytes);
         donglora_request(control, packets, out, sizeof out, &answer);
@@ -153,33 +204,16 @@ static struct bytes all_bytes(void)
     return all;
 }
 
-/* The frame of a TX with these bytes, which are sent at once. */
-static struct bytes tx_of(const struct bytes *bytes)
-{
-    uint8_t payload[256];
-    size_t i;
-
-    payload[0] = 1; /* the flags */
-    for (i = 0; i < bytes->len; i++)
-        payload[1 + i] = bytes->at[i];
-    return frame_of(DONGLORA_TX, payload, 1 + bytes->len);
-}
-
-/* All but b have a configured dongle that receives. The SET_CONFIG is that of P C.2.3. */
+/* All but b and e have a configured dongle that receives. */
 static struct count ready(int what, struct count c)
 {
-    static const uint8_t lora[] = {0x01, 0xA0, 0x27, 0xBE, 0x33, 0x07, 0x07, 0x00,
-                                   0x08, 0x00, 0x24, 0x14, 0x0E, 0x00, 0x01, 0x00};
-    struct bytes frame;
+    return what == 'b' || what == 'e' ? c : receive(c);
+}
 
-    if (what == 'b')
-        return c;
-    frame = frame_of(DONGLORA_SET_CONFIG, lora, sizeof lora);
-    c = feed(c, &frame);
-    donglora_configured(control, commands, out, sizeof out, &answer);
-    c = add(c);
-    frame = frame_of(DONGLORA_RX_START, NULL, 0);
-    return feed(c, &frame);
+/* The order that the last event of a round gives. */
+static uint64_t last_order(int what)
+{
+    return what == 'x' ? DONGLORA_RECEIVE : what == 'e' ? DONGLORA_STANDBY : DONGLORA_NOTHING;
 }
 
 /* The number in decimal digits on standard input, with six of them kept before the last. */
@@ -202,7 +236,7 @@ int main(void)
     size_t i;
     const struct bytes all = all_bytes();
     const struct bytes ping = frame_of(DONGLORA_PING, NULL, 0);
-    const struct bytes tx = tx_of(&all);
+    const struct bytes tx = tx_of(1, &all);
 
     donglora_power_up(control, run, commands, packets);
     c = ready(what, c);
@@ -210,7 +244,7 @@ int main(void)
         c = turn(what, c, &ping, &tx, &all);
 
     printf("%llu\n", (unsigned long long)c.written);
-    if (n > 0 && answer.order != (what == 'x' ? DONGLORA_RECEIVE : DONGLORA_NOTHING))
+    if (n > 0 && answer.order != last_order(what))
         return 1;
     return c.numbers != DONGLORA_TAKEN;
 }
