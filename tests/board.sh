@@ -11,7 +11,6 @@ set -euo pipefail
 root=$(cd "$(dirname "$0")/.." && pwd)
 built=$(cd "$1" && pwd)
 target=$2
-library=$root/target/cross/$target/libdonglora.a
 out=$built/$target
 seeds=(1 2 3 4 5 6 7 8)
 events=50000
@@ -22,26 +21,9 @@ fail() {
     exit 1
 }
 
-# The board of a target: its emulator, its compiler, and where its flash and its RAM begin.
-case $target in
-    thumbv7em | thumbv6m) qemu=(qemu-system-arm -M mps2-an386) gcc=arm-none-eabi-gcc flash=0 ram=0x20000000 ;;
-    riscv32)
-        qemu=(qemu-system-riscv32 -M virt -bios none)
-        gcc=riscv64-unknown-elf-gcc flash=0x80000000 ram=0x80400000
-        ;;
-    *) fail "no such target" ;;
-esac
-case $target in
-    thumbv7em) machine=(-mcpu=cortex-m4 -mfloat-abi=soft) ;;
-    thumbv6m) machine=(-mcpu=cortex-m0plus -mfloat-abi=soft) ;;
-    riscv32) machine=(-march=rv32imac -mabi=ilp32) ;;
-esac
-for file in "$library" "$built/replay"; do
-    [ -f "$file" ] || fail "there is no $file"
-done
-for tool in "${qemu[0]}" "$gcc"; do
-    command -v "$tool" > /dev/null || fail "there is no $tool"
-done
+. "$root/tests/emulated.sh"
+emulate "$target"
+[ -f "$built/replay" ] || fail "there is no $built/replay"
 
 # A Cortex-M0 has no loads and stores of words that are not aligned. With a bit of its CCR a Cortex-M4
 # has none either.
@@ -52,26 +34,16 @@ if [ "$target" = thumbv6m ]; then
         > "${start[0]}"
 fi
 
-# The board's memory, for picolibc's linker script.
-memory=--defsym=__flash=$flash,--defsym=__flash_size=0x400000
-memory+=,--defsym=__ram=$ram,--defsym=__ram_size=0x400000,--defsym=__stack_size=0x10000
-
 # Builds a test.
 build() { # NAME
-    "$gcc" --specs=picolibc.specs --picolibc-buildtype=release --oslib=semihost --crt0=semihost \
-        "${machine[@]}" -std=c99 -O2 -Wall -Wextra -Wpedantic -Werror -I"$root/include" \
-        -Wl,"$memory",-z,noexecstack "$root/tests/$1.c" "${start[@]}" "$library" -o "$out-$1.elf"
+    "${cc[@]}" "$root/tests/$1.c" "${start[@]}" "$library" -o "$out-$1.elf"
 }
 
 # Runs a test with these arguments. It must end with 0, and in time; what it prints goes to $out.printed.
 run() { # NAME ARGUMENT ..
-    local name=$1 words=enable=on,target=native,chardev=printed word status=0
+    local name=$1 status=0
     shift
-    for word in "$@"; do words+=,arg=$word; done
-    rm -f "$out.printed"
-    timeout 60 "${qemu[@]}" -display none -monitor none -serial none \
-        -chardev "file,id=printed,path=$out.printed" -semihosting-config "$words" \
-        -kernel "$out-$name.elf" < /dev/null > "$out.said" 2>&1 || status=$?
+    run_emulated "$out-$name.elf" "$out.printed" "$@" > "$out.said" 2>&1 || status=$?
     if [ "$status" != 0 ] || [ -s "$out.said" ]; then
         tail -n 20 "$out.said" "$out.printed" || true
         fail "$name${*:+ $*} ends with $status"
