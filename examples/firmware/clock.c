@@ -49,7 +49,7 @@ uint64_t clock_us(void)
     do {
         now = passed;
         count = SYST_CVR;
-    } while (now != passed || SYST_PENDING); /* both are of one millisecond */
+    } while (SYST_PENDING || now != passed); /* in this order: the interrupt may come between the two */
     ms += now - last;
     last = now;
     return ms * 1000 + (RELOAD - count) / COUNTS_PER_US;
