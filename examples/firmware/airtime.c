@@ -11,7 +11,7 @@ static uint32_t at_most_32_bits(uint64_t us)
     return us > UINT32_MAX ? UINT32_MAX : (uint32_t)us;
 }
 
-/* The formula of Semtech's data sheets. */
+/* The formula of Semtech's data sheets for SF 7 to 12. With SF 5 and 6 a chip differs from it by a few symbols. */
 uint32_t airtime_lora_us(const struct sx1262_lora_modulation *m, const struct sx1262_lora_packet *p)
 {
     int bits = 8 * p->len - 4 * m->sf + 28 + (p->crc ? 16 : 0) - (p->implicit ? 20 : 0);
