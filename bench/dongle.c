@@ -2,7 +2,7 @@
  * dongle: the loops of the program benchmark (crates/benchmark), through the functions that C programs call.
  *
  * Standard input has a letter, which work, and a decimal number, how many rounds. What it prints is
- * how many bytes the events wrote, and for b how many were in the runs, modulo a million: as pace
+ * how many bytes the events wrote, and for b how many were in the runs, modulo a million: as benchmark
  * does. It ends with 1 where an event was refused, or where the last order is not the right one.
  *
  *   b: 255 bytes that are not zero, and a disconnect     t: 999 ticks, and a PING
@@ -10,7 +10,7 @@
  *   k: a packet of 255 bytes is taken                    d: it is taken and delivered
  *   e: each event in a usual case, from a new session to its end; crates/benchmark has no such work
  *
- * bench/cortex.c takes these functions in, and has a main of its own.
+ * bench/board.c takes these functions in, and has a main of its own.
  */
 #include "donglora.h"
 
@@ -44,7 +44,7 @@ struct bytes {
 
 /*
  * So many bytes more. They are fewer than MANY, so a subtraction does for the last modulo. The
- * machine code of pace does the same for each byte; its loop of ticks counts nothing.
+ * machine code of benchmark does the same for each byte; its loop of ticks counts nothing.
  */
 static uint64_t sum(uint64_t written, uint64_t more)
 {

@@ -1,7 +1,7 @@
 /*
  * Replays scripts of device events through the C functions, and writes the trace of the answers: from
  * standard input, or from the files that the arguments name, each from power-up on, where - is
- * standard input. README.md, "A script of events", has the format. The trace is, byte for byte, that
+ * standard input. docs/USING.md, "A replay of events", has the format. The trace is, byte for byte, that
  * of the proved program replay.
  */
 #include "donglora.h"
