@@ -7,7 +7,7 @@ use Prim.Native.Nat.{ℕ, suc}
 use Rattle.scalar.specs.Bytes.{Each}
 use Rattle.board.specs.Board.{Board}
 use Rattle.device.specs.Demands.{System, History, onward, after, history, Demand1Seen, Contents}
-use Rattle.device.specs.Demands.{Demand2Seen, Demand2Wire, Demand3, outcomes, InTime, DropCount}
+use Rattle.device.specs.Demands.{Demand2Seen, Demand2Wire, Demand3, outcomes, InTime, DropCount, Receiving}
 
 -- The device y goes in step with z: what y is given is given to z by g, and R joins their states. R may say more of the two states than is asked for here.
 pub record InStep (y z : System) (g : y .Given → z .Given) (R : y .State → z .State → Type 0) : Type 0 where
@@ -20,6 +20,9 @@ pub record InStep (y z : System) (g : y .Given → z .Given) (R : y .State → z
   pub stays : (s : y .State) (t : z .State) → R s t → (c : y .Given) → y .GivenIn c → (n : ℕ) → y .answer s c .number ≡ suc n → y .next s c ≡ s
   pub radio : (s : y .State) (t : z .State) → R s t → y .radio s ≡ z .radio t
   pub waiting : (s : y .State) (t : z .State) → R s t → y .waiting s ≡ z .waiting t
+  pub session : (s : y .State) (t : z .State) → R s t → y .session s ≡ z .session t
+  pub unconfigured : (s : y .State) (t : z .State) → R s t → y .unconfigured s ≡ z .unconfigured t
+  pub receiving : (s : y .State) (t : z .State) → R s t → y .receiving s ≡ z .receiving t
 
 -- two histories that differ in the device's state alone, and there as R says
 record Alike (y z : System) (R : y .State → z .State → Type 0) (h : History y) (k : History z) : Type 0 where
@@ -129,3 +132,17 @@ module _ {y z : System} {g : y .Given → z .Given} {R : y .State → z .State �
     drop-count-carried d c i =
         let a = alike cs l in
         rw (answers a c i, p .event c, a .observer) (d (g c) (p .givenIn c i))
+
+    pub receiving-carried : Receiving z (map g cs) → Receiving y cs
+    receiving-carried d =
+        let a = alike cs l in
+        let v = p .session (history y cs .device) (history z (map g cs) .device) (a .device) in
+        let u = p .unconfigured (history y cs .device) (history z (map g cs) .device) (a .device) in
+        let r = p .receiving (history y cs .device) (history z (map g cs) .device) (a .device) in
+        record {
+          in-session = rw (r, v) (d .in-session);
+          configured = rw (u, r) (d .configured);
+          session-seen = rw (v, a .tally) (d .session-seen);
+          config-seen = rw (u, a .observer) (d .config-seen);
+          receiving-seen = rw (r, a .observer) (d .receiving-seen);
+        }

@@ -16,14 +16,14 @@ use Rattle.scalar.specs.Scalars.{get}
 use Rattle.command.specs.Commands.{flags}
 use Rattle.board.specs.Board.{Board}
 use Rattle.device.specs.State.{Config, Setting, Tx, Radio, free, listening, onAir, orphan, configuring, Packet}
-use Rattle.device.specs.State.{Inbox, State, link, air, state, noReception, held, tagsOf, open#, runs?, stalled}
+use Rattle.device.specs.State.{Inbox, State, link, air, state, held, tagsOf, open#, runs?, stalled}
 use Rattle.device.specs.State.{Event, byte, tick, clear, busy, sent, configured, fault, packet, request}
 use Rattle.device.specs.State.{disconnect, Input, Order, nothing, standby, configure, transmit, receive, free?}
 use Rattle.device.specs.Messages.{Frame, Message, ok, okInfo, err, txDone, seen}
 use Rattle.device.specs.Frames.{Received, damaged, command, errorOf, settingOf, txOf}
 use Rattle.device.specs.Reading.{brings}
-use Rattle.device.specs.Events.{Out, taken, changed, next, refused, begun, listens, idle, writesFirst, onTx, onSet, onCommand, turned, unless}
-use Rattle.device.specs.Events.{onReceived, onByte, onPacket, onRequest, onEvent, endSession, unlessRoom, step, roomMin, ticksMax}
+use Rattle.device.specs.Events.{Out, taken, changed, next, refused, begun, listens, idle, rearmed, writesFirst, onTx, ringEmptied, onSet, onCommand}
+use Rattle.device.specs.Events.{turned, unless, onReceived, onByte, onPacket, onRequest, onEvent, endSession, unlessRoom, step, roomMin, ticksMax}
 use Rattle.device.specs.Tally.{sessionEnded, afterTime, withTxs, radioReported, Entry, Tally, tally, ifTaken}
 use Rattle.device.specs.Tally.{afterTaken, afterOrder, unlessConfigure, nothingPending, noted, dones, newlyReported}
 use Rattle.device.specs.Demands.{Closed, was-reported, was-dropped, closed, outcome?}
@@ -133,6 +133,11 @@ unfolding idle
 idle-settles true t = refl
 idle-settles false t = refl
 
+rearmed-ordered : (v : Bool) (t : Tally) → afterOrder (rearmed v) t ≡ t
+unfolding rearmed
+rearmed-ordered true t = refl
+rearmed-ordered false t = refl
+
 ruleset laws = (
   closed-append,
   append-assoc,
@@ -158,6 +163,7 @@ ruleset laws = (
   begun-runs,
   idle-ordered,
   idle-settles,
+  rearmed-ordered,
 )
 
 -- ---- each event
@@ -258,7 +264,7 @@ module _ (b : Board) (c : List Closed) where
     kept-configured is-onAir = refusal _ configured 2 is-onAir
     kept-configured is-orphan = refusal _ configured 2 is-orphan
     kept-configured is-alone = refusal _ configured 2 is-alone
-    kept-configured (is-configuring {v = true}) = same c _ configured _ refl refl is-free refl (λ z. omega arith)
+    kept-configured (is-configuring {v = true}) = same c _ configured _ (simp laws) refl is-free refl (λ z. omega arith)
     kept-configured (is-configuring {v = false}) = same c _ configured _ refl refl is-free refl (λ z. omega arith)
 
     kept-fault : {r : Radio} {ws : List Tx} {p : Option Setting} {v : Bool} {k : Option Config} → Shape r ws p v k → Keep fault r ws p v k
@@ -389,7 +395,7 @@ module _ (b : Board) (c : List Closed) where
 
     was-set : (kind t : ℕ) (p : List ℕ) → eqb kind TX ≡ false → eqb kind SET-CONFIG ≡ true
         → {x : Radio} {ws : List Tx} {v : Bool} {k : Option Config} → Shape x ws none v k
-        → runs? x ≡ false → Framed (command kind t p) (old x ws v k) (taken (onSet (settingOf t p) x (new x ws k noReception)))
+        → runs? x ≡ false → Framed (command kind t p) (old x ws v k) (taken (onSet (settingOf t p) x (new x ws k (ringEmptied i))))
     was-set kind t p y z is-free h e = same c _ (byte 0) _ (rw (e, y, z) (simp laws)) refl is-configuring refl (λ u. refl)
     was-set kind t p y z (is-listening {t = u} {ws = ws}) h e =
         keeps-by (was-reported u ∷ map was-reported (tagsOf ws)) (rw (e, y, z, no-err (tagsOf ws)) (simp laws)) is-configuring

@@ -9,5 +9,6 @@ pub mod Refusals
 pub mod Wires
 pub mod Back
 pub mod Ranges
+pub mod Receiving
 pub mod History
 pub mod Carrying

@@ -17,13 +17,13 @@ use Rattle.board.specs.Board.{Board, ringMax}
 use Rattle.modulation.specs.declared.Modulation.{Modulation}
 use Rattle.modulation.specs.declared.Modulation.the-variants as M
 use Rattle.device.specs.State.{Config, Setting, Tx, Radio, free, listening, onAir, orphan, configuring, Packet, Air, Inbox}
-use Rattle.device.specs.State.{State, link, air, inbox, state, withLink, withInbox, noReception, tagsOf, free?, runs?, stalled}
+use Rattle.device.specs.State.{State, link, air, inbox, state, withLink, withInbox, tagsOf, free?, runs?, stalled}
 use Rattle.device.specs.State.{Event, byte, tick, clear, busy, sent, configured, fault, packet, request}
 use Rattle.device.specs.State.{disconnect, Input, Order, nothing, standby, transmit, receive}
 use Rattle.device.specs.Messages.{Frame, Message, yes, ok, okInfo, err, txDone, rx, cancelled, seen}
 use Rattle.device.specs.Frames.{Received, damaged, command, received, errorOf, settingOf, txOf}
-use Rattle.device.specs.Events.{Out, taken, refused, listens, listensIn, begun, idle, next, writesFirst, turned, onTx, onSet, unless}
-use Rattle.device.specs.Events.{onCommand, onReceived, onByte, unlessStalled, onClear, onBusy, onSent, onConfigured, onFault, onPacket}
+use Rattle.device.specs.Events.{Out, taken, refused, listens, listensIn, begun, idle, next, writesFirst, turned, onTx, ringEmptied, onSet}
+use Rattle.device.specs.Events.{unless, onCommand, onReceived, onByte, unlessStalled, onClear, onBusy, onSent, rearmed, onConfigured, onFault, onPacket}
 use Rattle.device.specs.Events.{onRequest, endSession, onTick, onDisconnect, onEvent, unlessRoom, step, roomMin, ticksMax}
 use Rattle.device.specs.Reading.{brings}
 use Rattle.device.specs.Tally.{Tally, ifTaken}
@@ -87,6 +87,11 @@ same-yes false = refl
 none-due : (v : Bool) → cond v nothing nothing ≡ nothing
 none-due true = refl
 none-due false = refl
+
+same-rearmed : (on : Bool) → rearmed on ≡ cond on receive nothing
+unfolding rearmed
+same-rearmed true = refl
+same-rearmed false = refl
 
 -- RX_START and RX_STOP
 turned-noted : (v on : Bool) (k : Observer) → orderNoted (cond v (idle on) nothing) k ≡ k
@@ -191,7 +196,7 @@ module _ (b : Board) (c : List Closed) (l : ℕ) where
     matches-configured v (listening t) ws p = refusal _ configured 2 d
     matches-configured v (onAir t) ws p = refusal _ configured 2 d
     matches-configured v orphan ws p = refusal _ configured 2 d
-    matches-configured true (configuring x) ws p = record { lost = l; knows = refl; drops = d; written = refl; order = refl }
+    matches-configured true (configuring x) ws p = record { lost = l; knows = refl; drops = d; written = refl; order = same-rearmed (i .receiving) }
     matches-configured false (configuring x) ws p = record { lost = l; knows = refl; drops = d; written = refl; order = refl }
 
     matches-fault : (v : Bool) (r : Radio) (ws : List Tx) (p : Option Setting) → Matches (has v r ws p) fault (taken (onFault r (has v r ws p)))
@@ -320,7 +325,8 @@ module _ (b : Board) (c : List Closed) (l : ℕ) where
       unfolding messagesDue orderDue
       matches-info r ws p h e = record { lost = l; knows = rw e; drops = d; written = rw (e, h); order = rw (e, h) (sym (none-due (atWork r && true))) }
 
-      matches-set : (r : Radio) (ws : List Tx) → runs? r ≡ false → Right 3 r ws none (taken (onSet (settingOf t q) r (withInbox noReception (woken r ws none))))
+      matches-set : (r : Radio) (ws : List Tx) → runs? r ≡ false
+          → Right 3 r ws none (taken (onSet (settingOf t q) r (withInbox (ringEmptied i) (woken r ws none))))
       unfolding messagesDue orderDue
       matches-set free ws z h e =
           record { lost = 0; knows = rw (e, no-err (tagsOf ws)); drops = refl; written = rw (e, h) (same-cancels ws); order = rw (e, h) }

@@ -38,13 +38,14 @@ use Rattle.answer.specs.declared.Answer.the-variants as A
 use Rattle.board.specs.Board.{Board, ringMax, txMax, boardInfo, uidsOf, bitmap, sx1262}
 use Rattle.board.specs.Params.{paramsGood, fskGood, freqGood}
 use Rattle.device.specs.State.{Config, Setting, Tx, Radio, free, listening, onAir, orphan, configuring, Packet, Inbox, Air, State}
-use Rattle.device.specs.State.{link, air, inbox, state, withLink, withInbox, noReception, powerUp, held, tagsOf, open#, free?, stalled}
+use Rattle.device.specs.State.{link, air, inbox, state, withLink, withInbox, withReceiving, noReception, powerUp, held, tagsOf, open#}
 use Rattle.device.specs.State.{Event, byte, tick, clear, busy, sent, configured, fault, packet, request, disconnect, Input, nothing}
+use Rattle.device.specs.State.{free?, stalled}
 use Rattle.device.specs.Messages.{Message, messagesBytes, ok, okInfo, okConfigured, err, txDone, rx, cancelled, seen}
 use Rattle.device.specs.Frames.{Received, damaged, command, received, untagged, unconfigured, needsConfig}
 use Rattle.device.specs.Frames.{otherModulation, configSized, sized, errorOf, good, settingOf, txOf}
-use Rattle.device.specs.Events.{Done, does, Out, begun, start, begin, next, afterTx, writesFirst, waitsFor, onTx, onSet, turned, onCommand, unless}
-use Rattle.device.specs.Events.{onReceived}
+use Rattle.device.specs.Events.{Done, does, Out, begun, start, begin, next, afterTx, writesFirst, waitsFor, onTx, ringEmptied, onSet, turned}
+use Rattle.device.specs.Events.{onCommand, unless, onReceived}
 use Rattle.device.specs.Events.{onRun, onByte, unlessStalled, onClear, onBusy, onSent, onConfigured, inForce, ifSession, onFault, cut, kept, dropsMax}
 use Rattle.device.specs.Events.{listens, onPacket, onRequest, ended, endSession, ticksMax, onTick, onDisconnect, onEvent, roomMin, unlessRoom, step}
 use Rattle.device.specs.Tally.{wrote}
@@ -93,6 +94,12 @@ pub record StateIn (s : State) : Type 0 where
 
 no-reception-in : InboxIn noReception
 no-reception-in = record { ring = tt; drops = omega arith }
+
+emptied-in : (i : Inbox) → InboxIn (ringEmptied i)
+emptied-in i = record { ring = tt; drops = omega arith }
+
+receiving-in : (on : Bool) {i : Inbox} → InboxIn i → InboxIn (withReceiving on i)
+receiving-in on h = record { ring = h .ring; drops = h .drops }
 
 -- no TX open
 idle-in : (r : Radio) → held r ≡ [] → RadioIn r → AirIn (air r [] none)
@@ -322,7 +329,8 @@ module _ (s : State) (h : StateIn s) where
   fault-kept (onAir t) i = cancelled-kept t (i .tags .0) (i .bounded)
   fault-kept orphan i = after-kept (hears (s .link .session) 0 (omega arith)) (omega (arith, i .bounded))
   fault-kept (configuring c) i =
-      keep (with-air _ (moved (configuring c) free refl tt (i .pending) i)) (hears (s .link .session) (c .tag) (i .radio .tag .1)) (omega arith)
+      keep (record { run = h .run; air = moved (configuring c) free refl tt (i .pending) i; inbox = receiving-in false (h .inbox) })
+      (hears (s .link .session) (c .tag) (i .radio .tag .1)) (omega arith)
 
   packet-kept : (fits : Bool) (p : Packet) → PacketIn p → Kept (onPacket fits p s)
   packet-kept true p k = still (with-inbox (kept-in (cut p) (cut-in p k) (s .inbox) (h .inbox)))
@@ -375,7 +383,7 @@ module _ (s : State) (h : StateIn s) where
     tx-kept (configuring c) i l = waits-kept (configuring c) i l
 
   turned-kept : (on : Bool) (t : ℕ) → TagIn t → Does (turned on t s)
-  turned-kept on t k = writes (ok t) (ok-sent t k) (omega arith) (with-inbox (record { ring = h .inbox .ring; drops = h .inbox .drops }))
+  turned-kept on t k = writes (ok t) (ok-sent t k) (omega arith) (with-inbox (receiving-in on (h .inbox)))
 
 -- ---- what steps 1 to 7 tell
 
@@ -472,14 +480,15 @@ module _ (b : Board) (board : BoardIn b) (s : State) (h : StateIn s) where
       where
         go : (tx : Bool) → eqb kind TX ≡ tx → (set : Bool) → eqb kind SET-CONFIG ≡ set → (rx-start rx-stop get-info : Bool)
             → Does (cond tx (onTx (txOf t p) (s .air .radio) s)
-            (cond set (onSet (settingOf t p) (s .air .radio) (withInbox noReception s))
+            (cond set (onSet (settingOf t p) (s .air .radio) (withInbox (ringEmptied (s .inbox)) s))
             (cond rx-start (turned true t s)
             (cond rx-stop (turned false t s)
             (cond get-info (writesFirst (okInfo b t) nothing s)
             (writesFirst (ok t) nothing s))))))
         go true x set y c d f = tx-kept s h (txOf t p) k (s .air .radio) (h .air) (tx-fits b s kind p e x)
         go false x true y c d f =
-            set-kept (withInbox noReception s) (with-inbox s h no-reception-in) (settingOf t p) (set-in b s kind p e y t k bytes) (s .air .radio) (h .air)
+            set-kept (withInbox (ringEmptied (s .inbox)) s) (with-inbox s h (emptied-in (s .inbox))) (settingOf t p) (set-in b s kind p e y t k bytes)
+            (s .air .radio) (h .air)
         go false x false y true d f = turned-kept s h true t k
         go false x false y false true f = turned-kept s h false t k
         go false x false y false false true = writes (okInfo b t) (info-sent b board t k) (omega (arith, uids-short b board)) h

@@ -16,7 +16,7 @@ use Rattle.kind.specs.Kinds.{PING, GET-INFO, SET-CONFIG, TX, RX-START, RX-STOP,
 use Rattle.answer.specs.declared.Answer.the-variants as A
 use Rattle.board.specs.Board.{sx1262, boardInfo, uidsOf}
 use Rattle.device.specs.State.{Config, Packet, state, link, air, inbox, free, Event, byte, tick, busy, sent, configured}
-use Rattle.device.specs.State.{fault, packet, request, disconnect, Input, Order, nothing, standby, configure, transmit}
+use Rattle.device.specs.State.{fault, packet, request, disconnect, Input, Order, nothing, standby, configure, transmit, receive}
 use Rattle.device.specs.Messages.{Message, message, messagesBytes}
 use Rattle.device.specs.Events.{Reply}
 use Rattle.device.specs.Reading.{frames}
@@ -42,13 +42,17 @@ fresh = begins device
 abbrev config : Config
 config = settingIn 3 (lora 7 14) .config
 
+-- the OK to a SET_CONFIG for LoRa, by its tag and its payload
+abbrev confirms : ℕ → List ℕ → Message
+confirms t p = message t (A.Configured (record { result = 0; owner = 1; current = settingIn t p .config .modulation })) []
+
 abbrev setUp : History device
 setUp =
     record {
       device = state (some config) (link true 0 []) (air free [] none) (inbox false [] 0);
       tally = tally [] true 0 false [];
       observer = observer (some config) (air free [] none) (inbox false [] 0);
-      bytes = messagesBytes (message 3 (A.Configured (record { result = 0; owner = 1; current = config .modulation })) [] ∷ []);
+      bytes = messagesBytes (confirms 3 (lora 7 14) ∷ []);
     }
 
 pub is-set-up : history device ready ≡ setUp
@@ -177,11 +181,23 @@ outcomes = (refl, refl, refl)
 -- said
 pub configures :
     Command fresh [] SET-CONFIG 3 (lora 12 14) [] (configure (settingIn 3 (lora 12 14) .config) true)
-    × Gives fresh (sentAs SET-CONFIG 3 (lora 12 14)) configured
-    (message 3 (A.Configured (record { result = 0; owner = 1; current = settingIn 3 (lora 12 14) .config .modulation })) [] ∷ []) nothing
+    × Gives fresh (sentAs SET-CONFIG 3 (lora 12 14)) configured (confirms 3 (lora 12 14) ∷ []) nothing
     × Gives fresh (sentAs SET-CONFIG 3 (lora 12 14) ++ (lent disconnect ∷ [])) configured [] standby
 unfolding computes answered
 configures = (refl, refl, refl)
+
+-- a device that receives is set again: when the radio is configured it receives again, also where the SET_CONFIG came while a TX was on air; but not where its
+-- session has ended, and not after a fault while it was configured, when the next SET_CONFIG is in force
+abbrev again : List Input
+again = sentAs SET-CONFIG 22 (lora 9 14)
+
+pub rearms :
+    Gives setUp (hears [] ++ again) configured (confirms 22 (lora 9 14) ∷ []) receive
+    × Gives setUp (hears [] ++ (tx 20 ++ (again ++ (lent (sent 33792) ∷ [])))) configured (confirms 22 (lora 9 14) ∷ []) receive
+    × Gives setUp (hears [] ++ (again ++ (lent disconnect ∷ []))) configured [] standby
+    × Gives setUp (hears [] ++ (again ++ (lent fault ∷ again))) configured (confirms 22 (lora 9 14) ∷ []) nothing
+unfolding computes answered
+rearms = (refl, refl, refl, refl)
 
 -- a PING without its zero, with a tick in the middle
 abbrev interrupted : List Input

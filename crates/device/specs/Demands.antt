@@ -1,6 +1,6 @@
--- The demands as statements about the device: 00, demands 1 to 3; 01's last line under "What each event does"; the drop count of P 6.9. Demand 1, and demand 2
--- for damaged frames, speak of every state of the device as 01 defines it. What is demanded after a list of events is stated for any device. proofs/ has each
--- of them proved of the defined device, under the name that stands above it here.
+-- The demands as statements about the device: 00, demands 1 to 3; 01's last line under "What each event does"; the drop count of P 6.9; when receiving is on,
+-- by 01 and 02 §1. Demand 1, and demand 2 for damaged frames, speak of every state of the device as 01 defines it. What is demanded after a list of events is
+-- stated for any device. proofs/ has each of them proved of the defined device, under the name that stands above it here.
 -- Assumes nothing.
 use Prim.Native.Nat.{ℕ, zero, suc, _+_, _≤_, _<_, min}
 use mathlib.Core.Path.{_≡_}
@@ -29,7 +29,7 @@ use Rattle.board.specs.Board.{Board}
 use Rattle.device.specs.State.{State, link, withLink, powerUp, held, tagsOf}
 use Rattle.device.specs.State.{Event, byte, tick, clear, busy, sent, configured, fault, packet, request, disconnect, Input, Order, nothing}
 use Rattle.device.specs.Messages.{Message, payload, messageBytes, messagesBytes, Frame, frame, seen}
-use Rattle.device.specs.Frames.{Received, damaged, command}
+use Rattle.device.specs.Frames.{Received, damaged, command, unconfigured}
 use Rattle.device.specs.Reading.{frames, brings}
 use Rattle.device.specs.Events.{does, Out, taken, refused, step, Reply, reply}
 use Rattle.device.specs.Tally.{Place, reported, dropped, withRadio, waits, Entry, entry, open?, Tally}
@@ -79,6 +79,10 @@ pub record System : Type 1 where
   -- the tags of its open TX, in their order: with the radio, and waiting
   pub radio : State → List ℕ
   pub waiting : State → List ℕ
+  -- whether a session is open, whether it is UNCONFIGURED, and whether receiving is on
+  pub session : State → Bool
+  pub unconfigured : State → Bool
+  pub receiving : State → Bool
 
 -- the device as 01 defines it, with any board
 abbrev pub defined : Board → System
@@ -94,6 +98,9 @@ defined b =
       next = λ s i. step b s i .next;
       radio = λ s. held (s .air .radio);
       waiting = λ s. tagsOf (s .air .waiting);
+      session = λ s. s .link .session;
+      unconfigured = λ s. unconfigured (s .config);
+      receiving = λ s. s .inbox .receiving;
     }
 
 -- ---- histories: every list of events from power-up, refused ones included
@@ -312,3 +319,13 @@ DropCount y is =
     (i : y .Given) → y .GivenIn i
     → dropCounts (frames (answer y (history y is) i .bytes))
     ≡ cond (due (y .event i) (answer y (history y is) i .number) (history y is .observer)) (min (history y is .observer .inbox .drops) 65535 ∷ []) []
+
+-- ---- receiving
+
+-- receiving: it is on only in an open session, and off while the device is UNCONFIGURED; and of the three the device has what was seen
+pub record Receiving (y : System) (is : List (y .Given)) : Type 0 where
+  pub in-session : y .receiving (history y is .device) ≡ true → y .session (history y is .device) ≡ true
+  pub configured : y .unconfigured (history y is .device) ≡ true → y .receiving (history y is .device) ≡ false
+  pub session-seen : y .session (history y is .device) ≡ history y is .tally .session
+  pub config-seen : y .unconfigured (history y is .device) ≡ unconfigured (history y is .observer .config)
+  pub receiving-seen : y .receiving (history y is .device) ≡ history y is .observer .inbox .receiving

@@ -14,7 +14,8 @@ use Rattle.modulation.specs.declared.Modulation.the-variants as M
 use Rattle.board.specs.Board.{Board, ringMax}
 use Rattle.board.specs.Ldro.{ldro}
 use Rattle.device.specs.State.{Config, Setting, Tx, RadioOf, Radio, free, listening, onAir, orphan, configuring, Packet, Inbox, State}
-use Rattle.device.specs.State.{link, air, inbox, state, withConfig, withLink, withAir, withInbox, noSession, noReception, tagsOf, free?, stalled}
+use Rattle.device.specs.State.{link, air, inbox, state, withConfig, withLink, withAir, withInbox, withReceiving, noSession, noReception}
+use Rattle.device.specs.State.{tagsOf, free?, stalled}
 use Rattle.device.specs.State.{Event, byte, tick, clear, busy, sent, configured, fault, packet, request}
 use Rattle.device.specs.State.{disconnect, Input, Order, nothing, standby, configure, transmit, receive}
 use Rattle.device.specs.Messages.{Message, ok, okInfo, okConfigured, err, txDone, cancelled, rx, messagesBytes}
@@ -128,6 +129,10 @@ onSent airtime (configuring c) s = refused PLACE s
 
 -- ---- SET_CONFIG taken
 
+-- It empties the ring and clears the count; receiving goes on, by 02 §1.
+abbrev pub ringEmptied : Inbox → Inbox
+ringEmptied i = inbox (i .receiving) [] 0
+
 -- Its OK comes later. With a TX or an orphan on air it waits. Otherwise every open TX is reported with 2, the oldest first, and the radio is configured.
 -- While the radio is being configured no byte is taken, so none comes then.
 abbrev pub onSet : Setting → Radio → State → Done
@@ -139,9 +144,15 @@ onSet c (configuring d) s = begin c (cancelled (tagsOf (s .air .waiting))) s
 
 -- ---- configured
 
+-- continuous receive is armed again where receiving is on, and the radio is told nothing where it is off: 02 §1, P 3.5 and 6.3
+unfoldable pub rearmed : Bool → Order
+rearmed true = receive
+rearmed false = nothing
+
 -- CONFIGURED, and the OK that was withheld. Where the session has ended, neither: the radio goes to standby.
 abbrev pub inForce : Bool → Setting → State → Done
-inForce true c s = writesFirst (okConfigured c) nothing (withConfig (some (c .config)) (withAir (air free (s .air .waiting) (s .air .pending)) s))
+inForce true c s =
+    writesFirst (okConfigured c) (rearmed (s .inbox .receiving)) (withConfig (some (c .config)) (withAir (air free (s .air .waiting) (s .air .pending)) s))
 inForce false c s = does (withAir (air free (s .air .waiting) (s .air .pending)) s) [] standby
 
 abbrev pub onConfigured : Radio → State → Out
@@ -158,15 +169,16 @@ abbrev pub ifSession : Bool → Message → List Message
 ifSession true m = m ∷ []
 ifSession false m = []
 
--- While configuring, it fails the SET_CONFIG: ERR(ERADIO) with its tag, UNCONFIGURED, standby. Otherwise ERR(ERADIO) comes with tag 0, then the TX with the
--- radio is reported with 2, and then all goes on as after a TX.
+-- While configuring, it fails the SET_CONFIG: ERR(ERADIO) with its tag, UNCONFIGURED, receiving ends, standby. Otherwise ERR(ERADIO) comes with tag 0, then
+-- the TX with the radio is reported with 2, and then all goes on as after a TX.
 abbrev pub onFault : Radio → State → Done
 onFault free s = afterTx (ifSession (s .link .session) (err ERADIO 0)) s
 onFault (listening t) s = afterTx (ifSession (s .link .session) (err ERADIO 0) ++ (txDone CANCELLED 0 t ∷ [])) s
 onFault (onAir t) s = afterTx (ifSession (s .link .session) (err ERADIO 0) ++ (txDone CANCELLED 0 t ∷ [])) s
 onFault orphan s = afterTx (ifSession (s .link .session) (err ERADIO 0)) s
 onFault (configuring c) s =
-    does (withConfig none (withAir (air free (s .air .waiting) (s .air .pending)) s)) (ifSession (s .link .session) (err ERADIO (c .tag))) standby
+    does (withConfig none (withInbox (withReceiving false (s .inbox)) (withAir (air free (s .air .waiting) (s .air .pending)) s)))
+    (ifSession (s .link .session) (err ERADIO (c .tag))) standby
 
 -- ---- packet
 
@@ -207,7 +219,7 @@ changed false was = was
 abbrev pub turned : Bool → ℕ → State → Done
 turned on t s =
     writesFirst (ok t) (cond (free? (s .air .radio) && changed on (s .inbox .receiving)) (idle on) nothing)
-    (withInbox (inbox on (s .inbox .ring) (s .inbox .drops)) s)
+    (withInbox (withReceiving on (s .inbox)) s)
 
 -- ---- request
 
@@ -249,11 +261,11 @@ onDisconnect false s = does (withLink (link false (s .link .ticks) []) s) [] not
 
 -- ---- byte
 
--- a command without an error; a SET_CONFIG empties the ring, clears the count and ends receiving before anything else
+-- a command without an error; a SET_CONFIG empties the ring before anything else
 abbrev pub onCommand : Board → ℕ → ℕ → List ℕ → State → Done
 onCommand b kind t p s =
     cond (eqb kind TX) (onTx (txOf t p) (s .air .radio) s)
-    (cond (eqb kind SET-CONFIG) (onSet (settingOf t p) (s .air .radio) (withInbox noReception s))
+    (cond (eqb kind SET-CONFIG) (onSet (settingOf t p) (s .air .radio) (withInbox (ringEmptied (s .inbox)) s))
     (cond (eqb kind RX-START) (turned true t s)
     (cond (eqb kind RX-STOP) (turned false t s)
     (cond (eqb kind GET-INFO) (writesFirst (okInfo b t) nothing s)

@@ -59,13 +59,17 @@ settingIn t p = record { tag = t; config = record { modulation = configOf p; wor
 abbrev pub receives : Bool → Observer → Observer
 receives on k = withInbox (inbox on (k .inbox .ring) (k .inbox .drops)) k
 
--- A TX with its OK waits; a SET_CONFIG without an ERR waits, ends receiving, and clears ring and count; RX_START and RX_STOP with their OK begin and end
--- receiving.
+-- nothing is held any more; receiving goes on if it was on
+abbrev pub ringCleared : Inbox → Inbox
+ringCleared i = inbox (i .receiving) [] 0
+
+-- A TX with its OK waits; a SET_CONFIG without an ERR waits, and clears ring and count; RX_START and RX_STOP with their OK begin and end receiving.
 abbrev pub commandNoted : Received → List Frame → Observer → Observer
 commandNoted damaged fs k = k
 commandNoted (command kind t p) fs k =
     cond (eqb kind TX && wrote OK fs) (withAir (air (k .air .radio) (k .air .waiting ++ (txIn t p ∷ [])) (k .air .pending)) k)
-    (cond (eqb kind SET-CONFIG && not (wrote ERR fs)) (observer (k .config) (air (k .air .radio) (k .air .waiting) (some (settingIn t p))) noneHeld)
+    (cond (eqb kind SET-CONFIG && not (wrote ERR fs))
+    (observer (k .config) (air (k .air .radio) (k .air .waiting) (some (settingIn t p))) (ringCleared (k .inbox)))
     (cond (eqb kind RX-START && wrote OK fs) (receives true k)
     (cond (eqb kind RX-STOP && wrote OK fs) (receives false k)
     k)))
@@ -93,13 +97,13 @@ clearNoted (configuring c) = configuring c
 abbrev pub radioEnds : Observer → Observer
 radioEnds k = withAir (air free (k .air .waiting) (k .air .pending)) k
 
--- a fault while configuring also leaves no configuration
+-- a fault while configuring also ends receiving, and leaves no configuration
 abbrev pub faultNoted : Radio → Observer → Observer
 faultNoted free k = radioEnds k
 faultNoted (listening t) k = radioEnds k
 faultNoted (onAir t) k = radioEnds k
 faultNoted orphan k = radioEnds k
-faultNoted (configuring c) k = radioEnds (observer none (k .air) (k .inbox))
+faultNoted (configuring c) k = radioEnds (observer none (k .air) (receives false k .inbox))
 
 -- a SET_CONFIG that is confirmed by its OK is in force
 abbrev pub confirmed : Bool → Radio → Option Config → Option Config

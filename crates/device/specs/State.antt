@@ -99,6 +99,10 @@ withAir a s = state (s .config) (s .link) a (s .inbox)
 abbrev pub withInbox : Inbox → State → State
 withInbox i s = state (s .config) (s .link) (s .air) i
 
+-- reception with receiving turned on or off: ring and count stay
+abbrev pub withReceiving : Bool → Inbox → Inbox
+withReceiving on i = inbox on (i .ring) (i .drops)
+
 -- no session, no run, nothing received: at power-up and after a session's end
 abbrev pub noSession : Link
 noSession = link false 0 []

@@ -17,7 +17,7 @@ use Rattle.kind.specs.Kinds.{EMODULATION, EUNKNOWN-CMD, EBUSY, ERADIO, EFRAME, 
 use Rattle.modulation.specs.Fsk.{fskOf, fskBytes}
 use Rattle.board.specs.Board.{Board, sx1262}
 use Rattle.board.specs.Params.{fskGood}
-use Rattle.device.specs.State.{Packet, State, powerUp, link, inbox, noReception, open#}
+use Rattle.device.specs.State.{Packet, State, powerUp, link, inbox, open#}
 use Rattle.device.specs.State.{Event, byte, tick, clear, busy, sent, configured, fault, packet, request}
 use Rattle.device.specs.State.{disconnect, Input, Order, nothing, standby, configure, transmit, receive}
 use Rattle.device.specs.Messages.{Message, ok, okInfo, okConfigured, err, txDone, messageBytes, messagesBytes}
@@ -144,14 +144,25 @@ pub starts : (commandAfter ready TX 0x0004 letter ≡ gives (ok 0x0004 ∷ []) (
 unfolding computes
 starts = (refl, refl, refl, refl)
 
--- C.4.1: the RX that goes out on request; a SET_CONFIG ends receiving and empties the ring
+-- C.4.1: the RX that goes out on request; a SET_CONFIG empties the ring; with its OK the radio receives again, by 02 §1, so that the second RX_START changes
+-- nothing
+abbrev reset : List Input
+reset = hears (packets 50000000 1) ++ sentAs SET-CONFIG 0x000B (lora 9 14)
+
+abbrev reset-ok : List ℕ
+reset-ok =
+    0x03 ∷ 0x80 ∷ 0x0B ∷ 0x01 ∷ 0x09 ∷ 0x01 ∷ 0x01 ∷ 0xA0 ∷ 0x27 ∷ 0xBE ∷ 0x33 ∷ 0x09 ∷ 0x07 ∷ 0x02 ∷ 0x08 ∷ 0x04
+    ∷ 0x24 ∷ 0x14 ∷ 0x0E ∷ 0x02 ∷ 0x01 ∷ 0x03 ∷ 0x0B ∷ 0x7F ∷ 0x00 ∷ []
+
 pub receives :
     (eventAfter (hears (packets 50000000 1)) request .bytes
     ≡ 0x02 ∷ 0xC0 ∷ 0x01 ∷ 0x04 ∷ 0xCC ∷ 0xFC ∷ 0x50 ∷ 0x01 ∷ 0x01 ∷ 0x01 ∷ 0x01 ∷ 0x05 ∷ 0x80 ∷ 0xF0 ∷ 0xFA ∷ 0x02
     ∷ 0x01 ∷ 0x01 ∷ 0x01 ∷ 0x02 ∷ 0x01 ∷ 0x01 ∷ 0x01 ∷ 0x05 ∷ 0xAA ∷ 0xBB ∷ 0x54 ∷ 0xC0 ∷ 0x00 ∷ [])
-    × (stateAfter (hears (packets 50000000 1) ++ sentAs SET-CONFIG 0x000B (lora 9 14)) .inbox ≡ noReception)
+    × (stateAfter reset .inbox ≡ inbox true [] 0)
+    × (eventAfter reset configured ≡ record { number = TAKEN; count = 25; bytes = reset-ok; order = receive })
+    × (commandAfter (reset ++ (lent configured ∷ [])) RX-START 0x000C [] ≡ gives (ok 0x000C ∷ []) nothing)
 unfolding computes
-receives = (refl, refl)
+receives = (refl, refl, refl, refl)
 
 -- C.4.2: a SET_CONFIG with two open TX, none on air, cancels both at once; its OK comes when the radio is configured
 abbrev two : List Input
