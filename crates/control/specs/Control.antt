@@ -59,9 +59,17 @@ withRadio a r = air r (a .pending) (a .first) (a .waiting)
 abbrev pub noSession : Link
 noSession = link false 0 0
 
--- nothing received; where the ring begins stays
-abbrev pub receptionCleared : Inbox → Inbox
-receptionCleared i = inbox false (i .first) 0 0
+-- reception with receiving turned on or off
+abbrev pub withReceiving : Inbox → Bool → Inbox
+withReceiving i on = inbox on (i .first) (i .held) (i .drops)
+
+-- what a SET_CONFIG leaves of reception: nothing is held, and receiving goes on; where the ring begins stays
+abbrev pub ringEmptied : Inbox → Inbox
+ringEmptied i = inbox (i .receiving) (i .first) 0 0
+
+-- what a session's end leaves of it: nothing is held, and receiving is off
+abbrev pub receptionEnded : Inbox → Inbox
+receptionEnded i = inbox false (i .first) 0 0
 
 abbrev pub powerUp : Device
 powerUp = device Unconfigured noSession (air Free false 0 0) (inbox false 0 0 0)

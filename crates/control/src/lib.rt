@@ -1,6 +1,6 @@
 // The device's state and its answers, and the steps that all events share.
 ghost use mathlib.Core.Path.{_≡_};
-ghost use Rattle.control.specs.Control.{powerUp, withLink, withAir, withInbox, withRadio, receptionCleared, stalled, idle};
+ghost use Rattle.control.specs.Control.{powerUp, withLink, withAir, withInbox, withRadio, withReceiving, ringEmptied, receptionEnded, stalled, idle};
 ghost use Rattle.control.specs.Control as C;
 ghost use Rattle.status.specs.Numbers as N;
 use frame::FRAME_MAX;
@@ -220,6 +220,18 @@ pub fn with_radio(a: Air, radio: Radio) -> Air
     }
 }
 
+// Reception with receiving turned on or off.
+pub fn with_receiving(i: Inbox, on: bool) -> Inbox
+    ensures { λ r. ⌜ r ≡ withReceiving i on ⌝ }
+{
+    Inbox {
+        receiving: on,
+        first: i.first,
+        held: i.held,
+        drops: i.drops,
+    }
+}
+
 // Whether the radio does nothing.
 pub fn is_free(r: Radio) -> bool
     ensures { λ b. ⌜ b ≡ C.free? r ⌝ }
@@ -264,13 +276,25 @@ pub fn idle(receiving: bool) -> Order
     Order::Standby
 }
 
-// Nothing is received, and nothing is held.
-pub fn clear_reception(i: Inbox) -> Inbox
-    ensures { λ r. ⌜ r ≡ receptionCleared i ⌝ }
+// What a SET_CONFIG leaves of reception: nothing is held, and receiving goes on.
+pub fn empty_ring(held: Inbox) -> Inbox
+    ensures { λ r. ⌜ r ≡ ringEmptied held ⌝ }
+{
+    Inbox {
+        receiving: held.receiving,
+        first: held.first,
+        held: 0,
+        drops: 0,
+    }
+}
+
+// What a session's end leaves of it: nothing is held, and receiving is off.
+pub fn end_reception(was: Inbox) -> Inbox
+    ensures { λ r. ⌜ r ≡ receptionEnded was ⌝ }
 {
     Inbox {
         receiving: false,
-        first: i.first,
+        first: was.first,
         held: 0,
         drops: 0,
     }

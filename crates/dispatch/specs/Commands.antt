@@ -12,7 +12,7 @@ use Rattle.device.specs.Frames.{Received, damaged, command, errorFor}
 use Rattle.device.specs.Events.{changed}
 use Rattle.control.specs.declared.Device.{Device}
 use Rattle.control.specs.declared.Order.the-variants.{Nothing}
-use Rattle.control.specs.Control.{inbox, withInbox, unconfigured, free?, Done, does, idle, radioOf, air, withAir, receptionCleared, writesFirst, Gives}
+use Rattle.control.specs.Control.{withInbox, withReceiving, unconfigured, free?, Done, does, idle, radioOf, air, withAir, ringEmptied, writesFirst, Gives}
 use mathlib.Core.Path.{_≡_}
 use lib.ListN.{length}
 use Rattle.device.specs.State.{held}
@@ -63,13 +63,13 @@ sets Configuring m d = begin m d
 unfoldable pub onSet : ℕ → List ℕ → List ℕ → Device → CommandGives
 onSet t p m d =
     let m' = commandKept m setting t p in
-    commandGives (sets (d .air .radio) m' (withInbox d (receptionCleared (d .inbox)))) m'
+    commandGives (sets (d .air .radio) m' (withInbox d (ringEmptied (d .inbox)))) m'
 
 -- ---- RX_START, RX_STOP
 
 unfoldable pub turned : Bool → ℕ → Device → Done
 turned on t d =
-    does (withInbox d (inbox on (d .inbox .first) (d .inbox .held) (d .inbox .drops))) (seen (ok t) ∷ [])
+    does (withInbox d (withReceiving (d .inbox) on)) (seen (ok t) ∷ [])
     (cond (free? (d .air .radio) && changed on (d .inbox .receiving)) (idle on) Nothing)
 
 -- ---- what is answered at once: RX_START, RX_STOP, GET_INFO, PING

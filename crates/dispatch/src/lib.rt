@@ -12,7 +12,6 @@ ghost use Rattle.dispatch.specs.Commands.{CommandTaken, open#, onTx, onS
 use board::TX_MAX;
 use control::Air;
 use control::Device;
-use control::Inbox;
 use control::Mode;
 use control::Order;
 use control::Radio;
@@ -100,7 +99,7 @@ fn set_config(
 {
     slot::keep(SETTING, tag, payload, commands);
     let held = d.inbox;
-    let emptied = control::clear_reception(held);
+    let emptied = control::empty_ring(held);
     let e = control::with_inbox(d, emptied);
     let was = d.air;
     let radio = was.radio;
@@ -180,12 +179,7 @@ fn turn(d: Device, on: bool, tag: u16, out: &mut [u8]) -> Taken
     let air = d.air;
     let radio = air.radio;
     let w = emit::write_ok(tag, out, 0);
-    let inbox = Inbox {
-        receiving: on,
-        first: was.first,
-        held: was.held,
-        drops: was.drops,
-    };
+    let inbox = control::with_receiving(was, on);
     let e = control::with_inbox(d, inbox);
     if control::is_free(radio) & changed(on, was.receiving) {
         return control::done(e, w, control::idle(on));

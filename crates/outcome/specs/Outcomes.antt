@@ -11,8 +11,9 @@ use Rattle.control.specs.declared.Mode.the-variants.{Unconfigured, Lora, Fsk}
 use Rattle.control.specs.declared.Radio.{Radio}
 use Rattle.control.specs.declared.Radio.the-variants.{Free, Listening, OnAir, Orphan, Configuring}
 use Rattle.control.specs.declared.Device.{Device}
-use Rattle.control.specs.declared.Order.the-variants.{Nothing, Standby}
-use Rattle.control.specs.Control.{device, withAir, withRadio, Done, does, writesFirst, Out, taken, refused, within}
+use Rattle.control.specs.declared.Order.{Order}
+use Rattle.control.specs.declared.Order.the-variants.{Nothing, Standby, Receive}
+use Rattle.control.specs.Control.{device, withAir, withRadio, withReceiving, Done, does, writesFirst, Out, taken, refused, within}
 use Rattle.slot.specs.Slots.{setting, tagAt, headAt, payloadAt}
 use Rattle.queue.specs.Queue.{afterTx}
 use lib.Dec.{eqb}
@@ -52,10 +53,16 @@ modeOf id = cond (eqb id LORA) Lora Fsk
 abbrev pub okConfigured : List ℕ → Frame
 okConfigured m = frame OK (tagAt m setting) (APPLIED ∷ MINE ∷ payloadAt m setting)
 
+-- receive where receiving is on, and nothing where it is off
+abbrev pub rearmed : Bool → Order
+rearmed true = Receive
+rearmed false = Nothing
+
 -- the configuration is in force, unless its session has ended: then the radio goes to standby
 abbrev pub inForce : Bool → List ℕ → Device → Done
 inForce true m d =
-    does (device (modeOf (headAt m setting)) (d .link) (withRadio (d .air) Free) (d .inbox)) (okConfigured m ∷ []) Nothing
+    does (device (modeOf (headAt m setting)) (d .link) (withRadio (d .air) Free) (d .inbox)) (okConfigured m ∷ [])
+    (rearmed (d .inbox .receiving))
 inForce false m d = does (withAir d (withRadio (d .air) Free)) [] Standby
 
 abbrev pub onConfigured : Radio → List ℕ → Device → Out
@@ -75,9 +82,10 @@ faultFrames session t = map seen (ifSession session (err ERADIO t))
 abbrev pub lost : ℕ → List ℕ → Device → Done
 lost t m d = writesFirst (faultFrames (d .link .session) 0) (writesFirst (seen (txDone CANCELLED 0 t) ∷ []) (afterTx m d))
 
+-- the SET_CONFIG has failed: receiving ends
 abbrev pub failed : List ℕ → Device → Done
 failed m d =
-    does (device Unconfigured (d .link) (withRadio (d .air) Free) (d .inbox)) (faultFrames (d .link .session) (tagAt m setting)) Standby
+    does (device Unconfigured (d .link) (withRadio (d .air) Free) (withReceiving (d .inbox) false)) (faultFrames (d .link .session) (tagAt m setting)) Standby
 
 abbrev pub onFault : Radio → List ℕ → Device → Done
 onFault Free m d = writesFirst (faultFrames (d .link .session) 0) (afterTx m d)

@@ -7,7 +7,8 @@ ghost use Rattle.buffer.specs.Lay.{lay};
 ghost use Rattle.device.specs.Events.{roomMin};
 ghost use Rattle.emit.specs.Emitting.{framesBytes, Writes};
 ghost use Rattle.control.specs.Control.{Gives, Returns, Replies};
-ghost use Rattle.outcome.specs.Outcomes.{clearOut, busyOut, sentOut, modeOf, okConfigured, inForce, configuredOut, faultFrames, lost, failed, faultOut};
+ghost use Rattle.outcome.specs.Outcomes.{clearOut, busyOut, sentOut, modeOf, rearmed, okConfigured, inForce, configuredOut};
+ghost use Rattle.outcome.specs.Outcomes.{faultFrames, lost, failed, faultOut};
 use answer::CONFIGURED_SIZE;
 use control::Device;
 use control::Mode;
@@ -118,13 +119,14 @@ fn in_force(d: Device, commands: &[u8; COMMANDS], out: &mut [u8]) -> Taken
         let w = write_configured(commands, out);
         let mode = mode_of(commands[SETTING * SLOT_SIZE + PAYLOAD_AT]);
         let inbox = d.inbox;
+        let order = rearm(inbox.receiving);
         let e = Device {
             mode,
             link,
             air,
             inbox,
         };
-        return control::done(e, w, Order::Nothing);
+        return control::done(e, w, order);
     }
     let e = control::with_air(d, air);
     control::done(e, 0, Order::Standby)
@@ -138,6 +140,16 @@ fn mode_of(id: u8) -> Mode
         return Mode::Lora;
     }
     Mode::Fsk
+}
+
+// A radio that was receiving receives again.
+fn rearm(receiving: bool) -> Order
+    ensures { λ r. ⌜ r ≡ rearmed receiving ⌝ }
+{
+    if receiving {
+        return Order::Receive;
+    }
+    Order::Nothing
 }
 
 // Writes the OK to the SET_CONFIG.
@@ -206,7 +218,7 @@ fn lost(d: Device, tag: u16, commands: &[u8; COMMANDS], out: &mut [u8]) -> Taken
     queue::after_tx(d, commands, out, v)
 }
 
-// The SET_CONFIG has failed.
+// The SET_CONFIG has failed, and receiving ends.
 fn failed(d: Device, commands: &[u8; COMMANDS], out: &mut [u8]) -> Taken
     requires { ⌜ roomMin ≤ length (now out) ⌝ }
     ensures { λ r. ⌜ Gives (failed (now (commands .entry)) d) (now (out .entry)) 0 r (now (out .exit)) ⌝ }
@@ -215,7 +227,7 @@ fn failed(d: Device, commands: &[u8; COMMANDS], out: &mut [u8]) -> Taken
     let air = control::with_radio(was, Radio::Free);
     let tag = scalar::u16_at(commands, SETTING * SLOT_SIZE + TAG_AT);
     let link = d.link;
-    let inbox = d.inbox;
+    let inbox = control::with_receiving(d.inbox, false);
     let w = write_fault(link.session, tag, out);
     let e = Device {
         mode: Mode::Unconfigured,

@@ -10,7 +10,7 @@ use Rattle.control.specs.declared.Mode.the-variants.{Unconfigured}
 use Rattle.control.specs.declared.Radio.{Radio}
 use Rattle.control.specs.declared.Device.{Device}
 use Rattle.control.specs.declared.Order.the-variants.{Nothing, Standby}
-use Rattle.control.specs.Control.{link, air, device, withLink, noSession, receptionCleared, radioOf, radioIs, free?, stalled, Done, does, Out, taken, within}
+use Rattle.control.specs.Control.{link, air, device, withLink, noSession, receptionEnded, radioOf, radioIs, free?, stalled, Done, does, Out, taken, within}
 
 -- ---- a session's end
 
@@ -21,7 +21,7 @@ ended r = radioIs (E.ended (radioOf r))
 -- and of the rest nothing; standby is ordered if the radio is free
 unfoldable pub endSession : Device → Done
 endSession d =
-    does (device Unconfigured noSession (air (ended (d .air .radio)) false (d .air .first) 0) (receptionCleared (d .inbox))) []
+    does (device Unconfigured noSession (air (ended (d .air .radio)) false (d .air .first) 0) (receptionEnded (d .inbox))) []
     (cond (free? (ended (d .air .radio))) Standby Nothing)
 
 -- ---- tick, disconnect

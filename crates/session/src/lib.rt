@@ -81,7 +81,7 @@ fn end_session(d: Device) -> Taken
     let was = d.air;
     let before = was.radio;
     let radio = ended(before);
-    let inbox = control::clear_reception(d.inbox);
+    let inbox = control::end_reception(d.inbox);
     let link = Link {
         session: false,
         ticks: 0,

@@ -13,8 +13,8 @@ use Rattle.dispatch.proofs.set_config.Tie as tie
 keep-requires : tie.Need-keep-requires
 keep-requires c κs = search needs
 
-clear-reception-requires : tie.Need-clear-reception-requires
-clear-reception-requires c κs = search needs
+empty-ring-requires : tie.Need-empty-ring-requires
+empty-ring-requires c κs = search needs
 
 with-inbox-requires : tie.Need-with-inbox-requires
 with-inbox-requires c κs = search needs
@@ -39,14 +39,14 @@ returns : tie.Need-returns
 unfolding onSet begin
 returns c =
     let keep = c .before .before .before .before .before .before .before .before .before .before .before .before .before .before .before .before .keep in
-    let clear-reception = c .before .before .before .before .before .before .before .before .before .before .before .before .before .before .clear-reception in
+    let empty-ring = c .before .before .before .before .before .before .before .before .before .before .before .before .before .before .empty-ring in
     let with-inbox = c .before .before .before .before .before .before .before .before .before .before .before .before .before .with-inbox in
     let radio = c .before .before .before .before .before .before .before .before .before .before .radio in
     let write-tx-done = c .before .before .before .before .before .before .before .write-tx-done in
     let configure = c .before .before .configure in
     let k = keep .ensures in
     record {
-      gives = rw (radio .given .1) (then (sent-one (write-tx-done .ensures)) (rw (k, with-inbox .ensures, clear-reception .ensures) at (configure .ensures)));
+      gives = rw (radio .given .1) (then (sent-one (write-tx-done .ensures)) (rw (k, with-inbox .ensures, empty-ring .ensures) at (configure .ensures)));
       commands = k;
     }
 
@@ -61,14 +61,14 @@ unfolding onSet
 returns-2 c =
     let start = c .before .before .before .before .before .before .before .before .before .before .before in
     let keep = c .before .before .before .before .before .before .before .keep in
-    let clear-reception = c .before .before .before .before .before .clear-reception in
+    let empty-ring = c .before .before .before .before .before .empty-ring in
     let with-inbox = c .before .before .before .before .with-inbox in
     let match = c .before .before .match in
     let with-air = c .before .with-air in
     record {
       gives =
           gives _ (sets-later _ _ (start .args .d .air .radio) (match .keys2))
-          (quiet _ _ _ _ (rw (with-air .ensures, with-inbox .ensures, clear-reception .ensures) at (c .done .ensures)));
+          (quiet _ _ _ _ (rw (with-air .ensures, with-inbox .ensures, empty-ring .ensures) at (c .done .ensures)));
       commands = keep .ensures;
     }
 
@@ -83,14 +83,14 @@ unfolding onSet
 returns-3 c =
     let start = c .before .before .before .before .before .before .before .before .before .before .before .before .before .before in
     let keep = c .before .before .before .before .before .before .before .before .before .before .keep in
-    let clear-reception = c .before .before .before .before .before .before .before .before .clear-reception in
+    let empty-ring = c .before .before .before .before .before .before .before .before .empty-ring in
     let with-inbox = c .before .before .before .before .before .before .before .with-inbox in
     let match = c .before .before .before .before .before .match in
     let configure2 = c .before .before .configure2 in
     let k = keep .ensures in
     record {
       gives = gives _ (sets-now _ _ (start .args .d .air .radio) (match .keys3))
-          (rw (k, with-inbox .ensures, clear-reception .ensures) at (configure2 .ensures));
+          (rw (k, with-inbox .ensures, empty-ring .ensures) at (configure2 .ensures));
       commands = k;
     }
 
@@ -99,7 +99,7 @@ set-config-spec =
     tie.close
     (tie.spec
     keep-requires
-    clear-reception-requires
+    empty-ring-requires
     with-inbox-requires
     enum-known-radio
     write-tx-done-requires

@@ -9,6 +9,9 @@ use Rattle.dispatch.proofs.turn.Tie as tie
 write-ok-requires : tie.Need-write-ok-requires
 write-ok-requires c κs = search needs
 
+with-receiving-requires : tie.Need-with-receiving-requires
+with-receiving-requires c κs = search needs
+
 with-inbox-requires : tie.Need-with-inbox-requires
 with-inbox-requires c κs = search needs
 
@@ -30,14 +33,15 @@ same-length c = search needs
 returns : tie.Need-returns
 unfolding turned
 returns c =
-    let write-ok = c .before .before .before .before .before .before .before .before .write-ok in
+    let write-ok = c .before .before .before .before .before .before .before .before .before .write-ok in
+    let with-receiving = c .before .before .before .before .before .before .with-receiving in
     let with-inbox = c .before .before .before .before .before .with-inbox in
     let is-free = c .before .before .before .before .is-free in
     let changed = c .before .before .before .changed in
     let if1 = c .before .before .if1 in
     let idle = c .before .idle in
     let e = rw (is-free .ensures, changed .ensures) at (if1 .taken) in
-    simp e (spoken _ _ (sent-one (write-ok .ensures)) (rw (with-inbox .ensures, idle .ensures) at (c .done .ensures)))
+    simp e (spoken _ _ (sent-one (write-ok .ensures)) (rw (with-inbox .ensures, with-receiving .ensures, idle .ensures) at (c .done .ensures)))
 
 done-requires-2 : tie.Need-done-requires-2
 done-requires-2 c κs = search needs
@@ -48,19 +52,21 @@ same-length-2 c = search needs
 returns-2 : tie.Need-returns-2
 unfolding turned
 returns-2 c =
-    let write-ok = c .before .before .before .before .before .before .before .write-ok in
+    let write-ok = c .before .before .before .before .before .before .before .before .write-ok in
+    let with-receiving = c .before .before .before .before .before .with-receiving in
     let with-inbox = c .before .before .before .before .with-inbox in
     let is-free = c .before .before .before .is-free in
     let changed = c .before .before .changed in
     let if1 = c .before .if1 in
     let e = rw (is-free .ensures, changed .ensures) at (if1 .left) in
-    simp e (spoken _ _ (sent-one (write-ok .ensures)) (rw (with-inbox .ensures) at (c .done2 .ensures)))
+    simp e (spoken _ _ (sent-one (write-ok .ensures)) (rw (with-inbox .ensures, with-receiving .ensures) at (c .done2 .ensures)))
 
 pub turn-spec : {M : Type 1} → statement M
 turn-spec =
     tie.close
     (tie.spec
     write-ok-requires
+    with-receiving-requires
     with-inbox-requires
     is-free-requires
     changed-requires

@@ -18,6 +18,9 @@ add-u16-at c = search needs
 u16-at-requires : tie.Need-u16-at-requires
 u16-at-requires c κs = search needs
 
+with-receiving-requires : tie.Need-with-receiving-requires
+with-receiving-requires c κs = search needs
+
 write-fault-requires : tie.Need-write-fault-requires
 write-fault-requires c κs = search needs
 
@@ -31,8 +34,9 @@ returns : tie.Need-returns
 returns c =
     let with-radio = c .before .before .before .before .before .before .before .before .before .with-radio in
     let u16-at = c .before .before .before .before .before .before .before .u16-at in
+    let with-receiving = c .before .before .before .before .before .with-receiving in
     let write-fault = c .before .before .before .write-fault in
-    spoken _ _ (from-start (rw (u16-at .ensures) at (write-fault .ensures))) (rw (with-radio .ensures) at (c .done .ensures))
+    spoken _ _ (from-start (rw (u16-at .ensures) at (write-fault .ensures))) (rw (with-radio .ensures, with-receiving .ensures) at (c .done .ensures))
 
 pub failed-spec : {M : Type 1} → statement M
 failed-spec =
@@ -42,6 +46,7 @@ failed-spec =
     mul-u16-at
     add-u16-at
     u16-at-requires
+    with-receiving-requires
     write-fault-requires
     done-requires
     same-length

@@ -27,6 +27,9 @@ element-copy-out-mode-of c = search needs
 mode-of-requires : tie.Need-mode-of-requires
 mode-of-requires c κs = search needs
 
+rearm-requires : tie.Need-rearm-requires
+rearm-requires c κs = search needs
+
 done-requires : tie.Need-done-requires
 done-requires c κs = search needs
 
@@ -35,15 +38,16 @@ same-length c = search needs
 
 returns : tie.Need-returns
 returns c =
-    let start = c .before .before .before .before .before .before .before .before .before .before .before .before .before in
-    let with-radio = c .before .before .before .before .before .before .before .before .before .before .with-radio in
-    let if1 = c .before .before .before .before .before .before .before .before .if1 in
-    let write-configured = c .before .before .before .before .before .before .write-configured in
-    let mode-of = c .before .before .mode-of in
+    let start = c .before .before .before .before .before .before .before .before .before .before .before .before .before .before in
+    let with-radio = c .before .before .before .before .before .before .before .before .before .before .before .with-radio in
+    let if1 = c .before .before .before .before .before .before .before .before .before .if1 in
+    let write-configured = c .before .before .before .before .before .before .before .write-configured in
+    let mode-of = c .before .before .before .mode-of in
+    let rearm = c .before .rearm in
     let d = start .args .d in
     let m = start .args .commands .now in
     gives (inForce true m d) (ap (λ (b : Bool). inForce b m d) (if1 .taken))
-    (spoken _ _ (sent-one (write-configured .ensures)) (c .done .ensures ∙ simp (mode-of .ensures, with-radio .ensures)))
+    (spoken _ _ (sent-one (write-configured .ensures)) (c .done .ensures ∙ simp (rearm .ensures, mode-of .ensures, with-radio .ensures)))
 
 with-air-requires : tie.Need-with-air-requires
 with-air-requires c κs = search needs
@@ -72,6 +76,7 @@ in-force-spec =
     add-mode-of
     element-copy-out-mode-of
     mode-of-requires
+    rearm-requires
     done-requires
     same-length
     returns
