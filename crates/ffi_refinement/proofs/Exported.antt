@@ -12,12 +12,13 @@ use Rattle.board.specs.Board.{sx1262}
 use Rattle.device.specs.State.{State}
 use Rattle.device.specs.State as S
 use Rattle.device.specs.Events.{step, Reply}
-use Rattle.device.specs.Demands.{defined, History, history, after, onward, begins, Demand1Seen, Contents, Demand2Seen, Demand2Wire, Demand3, InTime, DropCount}
+use Rattle.device.specs.Demands.{defined, History, history, after, onward, begins}
+use Rattle.device.specs.Demands.{Demand1Seen, Contents, Demand2Seen, Demand2Wire, Demand3, InTime, DropCount, Receiving}
 use Rattle.device.proofs.Back.{TagIn}
 use Rattle.device.proofs.Ranges.{sx1262-in}
 use Rattle.device.proofs.History as H
 use Rattle.device.proofs.Carrying.{InStep, given-in, demand1-seen-carried, contents-carried, demand2-seen-carried}
-use Rattle.device.proofs.Carrying.{demand2-wire-carried, demand3-carried, in-time-carried, drop-count-carried}
+use Rattle.device.proofs.Carrying.{demand2-wire-carried, demand3-carried, in-time-carried, drop-count-carried, receiving-carried}
 use Rattle.control.specs.declared.Radio.{Radio}
 use Rattle.control.specs.declared.Device.{Device}
 use Rattle.control.specs.Control.{replyNumbers}
@@ -152,6 +153,9 @@ step-by-step =
       stays = λ y s h c i n e. refused-stays y c (h .own) n e;
       radio = λ y s h. in-step zeros .radio (machineIn y) s (h .meets);
       waiting = λ y s h. in-step zeros .waiting (machineIn y) s (h .meets);
+      session = λ y s h. in-step zeros .session (machineIn y) s (h .meets);
+      unconfigured = λ y s h. in-step zeros .unconfigured (machineIn y) s (h .meets);
+      receiving = λ y s h. in-step zeros .receiving (machineIn y) s (h .meets);
     }
 
 module _ (cs : List Call) (l : Each CallIn cs) where
@@ -178,6 +182,9 @@ module _ (cs : List Call) (l : Each CallIn cs) where
 
   pub drop-count : DropCount exported cs
   drop-count = drop-count-carried step-by-step cs l (H.drop-count sx1262 sx1262-in (map inputOf cs) given)
+
+  pub receiving : Receiving exported cs
+  receiving = receiving-carried step-by-step cs l (H.receiving sx1262 sx1262-in (map inputOf cs) given)
 
 -- ---- demand 1, after every list of calls
 

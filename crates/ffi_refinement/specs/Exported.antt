@@ -13,7 +13,7 @@ use Rattle.device.specs.State as S
 use Rattle.device.specs.Frames.{damaged}
 use Rattle.device.specs.Events.{Reply}
 use Rattle.device.specs.Demands.{Exact, System, history}
-use Rattle.control.specs.Control.{radioOf, stalled}
+use Rattle.control.specs.Control.{radioOf, stalled, unconfigured}
 use Rattle.queue.specs.Queue.{waitingTags}
 use Rattle.packed.specs.Words.{controlWords, deviceIn, orderFrom}
 use Rattle.machine.specs.Machine.{Call}
@@ -53,6 +53,9 @@ exported =
       next = λ y c. called y c .next;
       radio = λ y. held (radioOf (deviceIn (y .control) .air .radio));
       waiting = λ y. waitingTags (y .commands) (deviceIn (y .control) .air .first) (deviceIn (y .control) .air .waiting);
+      session = λ y. deviceIn (y .control) .link .session;
+      unconfigured = λ y. unconfigured (deviceIn (y .control) .mode);
+      receiving = λ y. deviceIn (y .control) .inbox .receiving;
     }
 
 -- what C is answered, call by call

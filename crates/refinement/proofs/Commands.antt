@@ -32,7 +32,7 @@ use Rattle.control.specs.declared.Radio.{Radio}
 use Rattle.control.specs.declared.Air.{Air}
 use Rattle.control.specs.declared.Device.{Device}
 use Rattle.control.specs.declared.Order.the-variants.{Nothing}
-use Rattle.control.specs.Control.{free?, runs?, stalled, receptionCleared, withInbox, unconfigured, Done, does, writesFirst, idle}
+use Rattle.control.specs.Control.{free?, runs?, stalled, ringEmptied, withInbox, unconfigured, Done, does, writesFirst, idle}
 use Rattle.slot.specs.Slots.{setting, slotBytes, commandKept}
 use Rattle.queue.specs.Queue.{start}
 use Rattle.validation.proofs.Laws.{none-set, none-tx, TxIn}
@@ -41,7 +41,8 @@ use Rattle.dispatch.specs.Commands.{dispatched}
 use Rattle.refinement.specs.Seen.{orderIn}
 use Rattle.refinement.proofs.Slots.{laid, wheel16, ring-push, ring-apart}
 use Rattle.refinement.proofs.Stands.{SetAt, RadioAs, as-free, as-listening, as-onAir, as-orphan, as-configuring, PendingAs, as-none, as-some}
-use Rattle.refinement.proofs.Stands.{txSlot, TxAt, Queue, AirAs, Stands, Agrees, quietly, empty-inbox, with-air, with-inbox, same-unconfigured}
+use Rattle.refinement.proofs.Stands.{txSlot, TxAt, Queue, AirAs, Stands, Agrees, quietly, empty-inbox, with-receiving, with-air, with-inbox}
+use Rattle.refinement.proofs.Stands.{same-unconfigured}
 use Rattle.refinement.proofs.Outcomes.{length-tags, begins, starts, idle-as}
 use Rattle.refinement.proofs.Inbox.{same-free}
 
@@ -207,16 +208,16 @@ module _ {d : Device} {run m ps : List ℕ} {s : State} (h : Stands d run m ps s
         (ring-apart 259 16 txSlot wheel16 m setting (setting * 259) (slotBytes t p) (omega arith) (omega (arith, length-slot, sizes .1)) fits-set
         (d .air .first) (s .air .waiting) (h .air .first) (omega arith) (h .air .ring))
 
-    -- receiving ends, and the ring is emptied
-    deafened : Stands (withInbox d (receptionCleared (d .inbox))) run (commandKept m setting t p) ps (S.withInbox S.noReception s)
-    deafened = with-inbox rests-set (empty-inbox (d .inbox .first) (h .inbox .first) (h .inbox .long))
+    -- the ring is emptied
+    emptied : Stands (withInbox d (ringEmptied (d .inbox))) run (commandKept m setting t p) ps (S.withInbox (E.ringEmptied (s .inbox)) s)
+    emptied = with-inbox rests-set (empty-inbox (d .inbox .first) (h .inbox .receiving) (h .inbox .first) (h .inbox .long))
 
     pended : (q : S.Radio) → RadioAs (commandKept m setting t p) (d .air .radio) q
-        → Agrees (pends (withInbox d (receptionCleared (d .inbox)))) run (commandKept m setting t p) ps
-        (E.does (S.withAir (S.air q (s .air .waiting) (some c)) (S.withInbox S.noReception s)) [] S.nothing)
+        → Agrees (pends (withInbox d (ringEmptied (d .inbox)))) run (commandKept m setting t p) ps
+        (E.does (S.withAir (S.air q (s .air .waiting) (some c)) (S.withInbox (E.ringEmptied (s .inbox)) s)) [] S.nothing)
     pended q r =
         quietly
-        (with-air deafened record {
+        (with-air emptied record {
           radio = r;
           pending = as-some set-at;
           first = h .air .first;
@@ -225,15 +226,15 @@ module _ {d : Device} {run m ps : List ℕ} {s : State} (h : Stands d run m ps s
           long = rests-set .air .long;
         })
 
-    pub set-up : Agrees (onSet t p m d .done) run (onSet t p m d .commands) ps (E.onSet c (s .air .radio) (S.withInbox S.noReception s))
+    pub set-up : Agrees (onSet t p m d .done) run (onSet t p m d .commands) ps (E.onSet c (s .air .radio) (S.withInbox (E.ringEmptied (s .inbox)) s))
     unfolding onSet
     set-up = go (h .air .radio) refl
       where
         go : {r : Radio} {q : S.Radio} → RadioAs m r q → r ≡ d .air .radio
-            → Agrees (sets r (commandKept m setting t p) (withInbox d (receptionCleared (d .inbox)))) run (commandKept m setting t p) ps
-            (E.onSet c q (S.withInbox S.noReception s))
-        go as-free e = begins deafened [] c set-at g
-        go (as-listening {t = u}) e = begins deafened (txDone CANCELLED 0 u ∷ []) c set-at g
+            → Agrees (sets r (commandKept m setting t p) (withInbox d (ringEmptied (d .inbox)))) run (commandKept m setting t p) ps
+            (E.onSet c q (S.withInbox (E.ringEmptied (s .inbox)) s))
+        go as-free e = begins emptied [] c set-at g
+        go (as-listening {t = u}) e = begins emptied (txDone CANCELLED 0 u ∷ []) c set-at g
         go (as-onAir {t = u}) e = pended (S.onAir u) (subst (λ (r : Radio). RadioAs (commandKept m setting t p) r (S.onAir u)) e as-onAir)
         go as-orphan e = pended S.orphan (subst (λ (r : Radio). RadioAs (commandKept m setting t p) r S.orphan) e as-orphan)
         go (as-configuring y) e = absurd (true≢false (ap runs? e ∙ resting .1))
@@ -244,16 +245,7 @@ module _ {d : Device} {run m ps : List ℕ} {s : State} (h : Stands d run m ps s
   unfolding turned
   turns on t =
       record {
-        next =
-            with-inbox h record {
-              receiving = refl;
-              drops = h .inbox .drops;
-              first = h .inbox .first;
-              count = h .inbox .count;
-              bounded = h .inbox .bounded;
-              ring = h .inbox .ring;
-              long = h .inbox .long;
-            };
+        next = with-inbox h (with-receiving on (h .inbox));
         writes = refl;
         order =
             ap₂ (λ (v w : Bool). orderIn m (cond (v && changed on w) (idle on) Nothing)) (same-free (h .air .radio)) (h .inbox .receiving)
@@ -297,7 +289,7 @@ module _ {d : Device} {run m ps : List ℕ} {s : State} (h : Stands d run m ps s
       where
         go : (tx : Bool) → eqb kind TX ≡ tx → (set : Bool) → eqb kind SET-CONFIG ≡ set → {x : Done} {o : E.Done} → Agrees x run m ps o
             → Ruling (cond tx (onTx t p m d) (cond set (onSet t p m d) (commandGives x m)))
-            (cond tx (E.onTx (txOf t p) (s .air .radio) s) (cond set (E.onSet (settingOf t p) (s .air .radio) (S.withInbox S.noReception s)) o))
+            (cond tx (E.onTx (txOf t p) (s .air .radio) s) (cond set (E.onSet (settingOf t p) (s .air .radio) (S.withInbox (E.ringEmptied (s .inbox)) s)) o))
         go true a set b y =
             let k : TxIn sx1262 (unconfigured (d .mode)) (open# (d .air)) p =
             none-tx sx1262 (unconfigured (d .mode)) (open# (d .air)) p

@@ -8,20 +8,20 @@ use Rattle.scalar.proofs.Bytes.{each-right}
 use Rattle.board.specs.Board.{sx1262}
 use Rattle.device.specs.State.{State, tagsOf}
 use Rattle.device.specs.State as S
-use Rattle.device.specs.Demands.{defined, Demand1Seen, Contents, Demand2Seen, Demand2Wire, Demand3, InTime, DropCount}
+use Rattle.device.specs.Demands.{defined, Demand1Seen, Contents, Demand2Seen, Demand2Wire, Demand3, InTime, DropCount, Receiving}
 use Rattle.device.proofs.Back.{TagIn}
 use Rattle.device.proofs.Ranges.{sx1262-in}
 use Rattle.device.proofs.History as H
 use Rattle.device.proofs.Carrying.{InStep, given-in, demand1-seen-carried, contents-carried, demand2-seen-carried}
-use Rattle.device.proofs.Carrying.{demand2-wire-carried, demand3-carried, in-time-carried, drop-count-carried}
+use Rattle.device.proofs.Carrying.{demand2-wire-carried, demand3-carried, in-time-carried, drop-count-carried, receiving-carried}
 use Rattle.control.specs.declared.Radio.{Radio}
-use Rattle.control.specs.Control.{radioOf}
+use Rattle.control.specs.Control.{radioOf, unconfigured}
 use Rattle.queue.specs.Queue.{waitingTags}
 use Rattle.machine.specs.Machine.{Machine, Call, Ran, stepped}
 use Rattle.refinement.specs.Seen.{replyOf}
 use Rattle.refinement.specs.Refines.{Memories, inputOf, CallIn}
 use Rattle.refinement.specs.Demands.{coded}
-use Rattle.refinement.proofs.Stands.{RadioAs, as-free, as-listening, as-onAir, as-orphan, as-configuring}
+use Rattle.refinement.proofs.Stands.{RadioAs, as-free, as-listening, as-onAir, as-orphan, as-configuring, same-unconfigured}
 use Rattle.refinement.proofs.Outcomes.{tags-wait}
 use Rattle.refinement.proofs.Refusals.{demand1}
 use Rattle.refinement.proofs.Refinement.{Meets, same-reply, meets-next, meets-first}
@@ -57,6 +57,9 @@ in-step w =
       stays = λ y s h c i n e. refused-stays y c n e;
       radio = λ y s h. same-held (h .stands .air .radio);
       waiting = λ y s h. same-waiting y s h;
+      session = λ y s h. h .stands .link .session;
+      unconfigured = λ y s h. ap unconfigured (h .stands .mode) ∙ same-unconfigured (s .config);
+      receiving = λ y s h. h .stands .inbox .receiving;
     }
 
 module _ (w : Memories) (cs : List Call) (l : Each CallIn cs) where
@@ -83,3 +86,6 @@ module _ (w : Memories) (cs : List Call) (l : Each CallIn cs) where
 
   pub drop-count : DropCount (coded w) cs
   drop-count = drop-count-carried (in-step w) cs l (H.drop-count sx1262 sx1262-in (map inputOf cs) given)
+
+  pub receiving : Receiving (coded w) cs
+  receiving = receiving-carried (in-step w) cs l (H.receiving sx1262 sx1262-in (map inputOf cs) given)

@@ -69,7 +69,7 @@ module _ {d : Device} {run m p : List ℕ} {s : State} (h : Stands d run m p s) 
               link = empty-link false 0 (omega arith) (h .link .long);
               mode = refl;
               air = empty-air (d .air .first) (ended-as (h .air .radio)) (h .air .first) (h .air .long);
-              inbox = empty-inbox (d .inbox .first) (h .inbox .first) (h .inbox .long);
+              inbox = empty-inbox (d .inbox .first) refl (h .inbox .first) (h .inbox .long);
             };
         writes = refl;
         order = ended-order (h .air .radio);

@@ -36,13 +36,13 @@ use Rattle.control.specs.declared.Air.{Air}
 use Rattle.control.specs.declared.Device.{Device}
 use Rattle.control.specs.declared.Order.{Order}
 use Rattle.control.specs.declared.Order.the-variants.{Nothing, Standby, Transmit}
-use Rattle.control.specs.Control.{link, air, withLink, withInbox, receptionCleared, free?, stalled, unconfigured, Done, does, Out, taken, refused, within, idle}
+use Rattle.control.specs.Control.{link, air, withLink, withInbox, ringEmptied, free?, stalled, unconfigured, Done, does, Out, taken, refused, within, idle}
 use Rattle.slot.specs.Slots.{slotSize, setting, slotBytes, commandKept, lenAt, tagAt, headAt}
 use Rattle.queue.specs.Queue as Q
 use Rattle.queue.specs.Queue.{start, begin, next, afterTx}
 use Rattle.validation.proofs.Laws.{none-set, none-tx}
 use Rattle.session.specs.Session.{ended, endSession, onTick, onDisconnect, tickOut, disconnectOut}
-use Rattle.outcome.specs.Outcomes.{onClear, onBusy, onSent, onFault, clearOut, busyOut, sentOut, faultOut, inForce, onConfigured, configuredOut}
+use Rattle.outcome.specs.Outcomes.{onClear, onBusy, onSent, onFault, clearOut, busyOut, sentOut, faultOut, rearmed, inForce, onConfigured, configuredOut}
 use Rattle.inbox.specs.Packets.{onPacket, onRequest, packetOut, requestOut}
 use Rattle.dispatch.specs.Commands.{CommandGives, commandGives, open#, slotFor, waitsToo, onTx, pends, sets, onSet, turned, atOnce, onCommand, unless}
 use Rattle.dispatch.specs.Commands.{dispatched, onReceived}
@@ -289,7 +289,11 @@ module _ (m : List ℕ) (d : Device) where
     go-sent airtime Configuring = refuses (sent airtime) 2
 
     in-force : (v : Bool) → Does configured (inForce v m d) m
-    in-force true = λ w h. record { uses = tt; alone = λ b. refl }
+    in-force true = λ w h. record { uses = go (d .inbox .receiving) w; alone = λ b. absurd (true≢false (sym b)) }
+      where
+        go : (on : Bool) (w : Option Named) → Uses none (naming configured 0 (rearmed on) m w) m
+        go true w = tt
+        go false w = tt
     in-force false = λ w h. record { uses = tt; alone = λ b. absurd (true≢false (sym b)) }
 
     go-configured : (r : Radio) → Goes configured (onConfigured r m d) m
@@ -388,7 +392,7 @@ module _ (m : List ℕ) (d : Device) (s : Sound m (d .air)) (calm : stalled (d .
       m' = commandKept m setting t p
 
       e : Device
-      e = withInbox d (receptionCleared (d .inbox))
+      e = withInbox d (ringEmptied (d .inbox))
 
       now : Yields m d (byte 0) → Does m d (byte 0) (begin m' e) m'
       now y = sets-up m e (byte 0) y m' (len-kept m setting t p (s .long) most (omega arith))

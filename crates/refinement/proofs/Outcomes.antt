@@ -19,14 +19,13 @@ use Rattle.device.proofs.Back.{TagIn}
 use Rattle.device.proofs.Ranges.{AirIn}
 use Rattle.control.specs.declared.Radio.{Radio}
 use Rattle.control.specs.declared.Device.{Device}
-use Rattle.control.specs.declared.Air.{Air}
 use Rattle.control.specs.Control.{withRadio, Done, writesFirst, idle}
-use Rattle.outcome.specs.Outcomes.{faultFrames, lost, onClear, onBusy, onSent, onFault, inForce, onConfigured}
+use Rattle.outcome.specs.Outcomes.{faultFrames, lost, onClear, onBusy, onSent, rearmed, onFault, inForce, onConfigured}
 use Rattle.slot.specs.Slots.{headAt}
 use Rattle.queue.specs.Queue.{listens, begun, start, waitingTags, begin, next, afterTx}
 use Rattle.refinement.specs.Seen.{orderIn}
 use Rattle.refinement.proofs.Stands.{SetAt, RadioAs, as-free, as-listening, as-onAir, as-orphan, as-configuring, PendingAs, as-none}
-use Rattle.refinement.proofs.Stands.{as-some, TxAt, Queue, AirAs, Stands, Agrees, quietly, Answered, takes, refuses, empty-air}
+use Rattle.refinement.proofs.Stands.{as-some, TxAt, Queue, AirAs, Stands, Agrees, quietly, Answered, takes, refuses, empty-air, with-receiving}
 use Rattle.refinement.proofs.Stands.{with-air, same-listens, tx-tag, tx-flags, tx-packet, set-tag, set-mode, set-order, set-ok}
 
 -- ---- those that wait
@@ -51,6 +50,11 @@ pub idle-as : (m : List ℕ) (v : Bool) → orderIn m (idle v) ≡ E.idle v
 unfolding E.idle
 idle-as m true = refl
 idle-as m false = refl
+
+rearmed-as : (m : List ℕ) (v : Bool) → orderIn m (rearmed v) ≡ E.rearmed v
+unfolding E.rearmed
+rearmed-as m true = refl
+rearmed-as m false = refl
 
 -- ---- what comes after a TX
 
@@ -181,7 +185,7 @@ module _ {d : Device} {run m p : List ℕ} {s : State} (h : Stands d run m p s) 
     on-fault as-orphan = noted-too
     on-fault (as-configuring x) =
         record {
-          next = record { link = h .link; mode = refl; air = turns as-free; inbox = h .inbox };
+          next = record { link = h .link; mode = refl; air = turns as-free; inbox = with-receiving false (h .inbox) };
           writes = ap₂ faultFrames (h .link .session) (set-tag x);
           order = refl;
         }
@@ -199,6 +203,6 @@ module _ {d : Device} {run m p : List ℕ} {s : State} (h : Stands d run m p s) 
           record {
             next = record { link = h .link; mode = set-mode x; air = turns as-free; inbox = h .inbox };
             writes = ap (λ (f : Frame). f ∷ []) (set-ok x);
-            order = refl;
+            order = rw (h .inbox .receiving) (rearmed-as m (s .inbox .receiving));
           }
       go false = record { next = with-air h (turns as-free); writes = refl; order = refl }

@@ -219,7 +219,7 @@ meets-first w =
             link = empty-link false 0 (omega arith) (w .run-size);
             mode = refl;
             air = empty-air 0 as-free (omega arith) (w .commands-size);
-            inbox = empty-inbox 0 (omega arith) (w .packets-size);
+            inbox = empty-inbox 0 refl (omega arith) (w .packets-size);
           };
       shaped = is-free;
       ranges = at-power-up;

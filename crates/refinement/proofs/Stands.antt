@@ -35,7 +35,7 @@ use Rattle.control.specs.declared.Air.{Air}
 use Rattle.control.specs.declared.Inbox.{Inbox}
 use Rattle.control.specs.declared.Device.{Device}
 use Rattle.control.specs.declared.Order.the-variants.{Nothing, Configure}
-use Rattle.control.specs.Control.{link, air, inbox, withLink, withAir, withInbox, unconfigured, Done, does, Out, taken, refused}
+use Rattle.control.specs.Control.{link, air, inbox, withLink, withAir, withInbox, withReceiving, unconfigured, Done, does, Out, taken, refused}
 use Rattle.slot.specs.Slots.{slotSize, setting, slotBytes, lenAt, tagAt, headAt, payloadAt}
 use Rattle.queue.specs.Queue.{listens, ldroAt}
 use Rattle.inbox.specs.Packets as P
@@ -155,8 +155,12 @@ empty-link v n h l = record { session = refl; ticks = refl; bounded = h; bytes =
 pub empty-air : {m : List ℕ} {r : Radio} {q : S.Radio} (k : ℕ) → RadioAs m r q → k < 16 → length m ≡ 4403 → AirAs (air r false k 0) m (S.air q [] none)
 empty-air k x h l = record { radio = x; pending = as-none; first = h; count = refl; ring = tt; long = l }
 
-pub empty-inbox : {p : List ℕ} (k : ℕ) → k < 64 → length p ≡ 17664 → InboxAs (inbox false k 0 0) p S.noReception
-empty-inbox k h l = record { receiving = refl; drops = refl; first = h; count = refl; bounded = omega arith; ring = tt; long = l }
+pub empty-inbox : {p : List ℕ} {v w : Bool} (k : ℕ) → v ≡ w → k < 64 → length p ≡ 17664 → InboxAs (inbox v k 0 0) p (S.inbox w [] 0)
+empty-inbox k e h l = record { receiving = e; drops = refl; first = h; count = refl; bounded = omega arith; ring = tt; long = l }
+
+pub with-receiving : {i : Inbox} {p : List ℕ} {j : S.Inbox} (on : Bool) → InboxAs i p j → InboxAs (withReceiving i on) p (S.withReceiving on j)
+with-receiving on h =
+    record { receiving = refl; drops = h .drops; first = h .first; count = h .count; bounded = h .bounded; ring = h .ring; long = h .long }
 
 module _ {d : Device} {run m p : List ℕ} {s : State} (h : Stands d run m p s) where
   pub with-link : {run' : List ℕ} {a : Link} {b : S.Link} → LinkAs a run' b → Stands (withLink d a) run' m p (S.withLink b s)

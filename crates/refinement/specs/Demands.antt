@@ -20,7 +20,7 @@ use Rattle.device.specs.Reading.{brings}
 use Rattle.device.specs.Due.{cause, errDue}
 use Rattle.device.specs.Demands.{Exact, System}
 use Rattle.control.specs.declared.Order.the-variants.{Nothing}
-use Rattle.control.specs.Control.{link, withLink, radioOf, stalled}
+use Rattle.control.specs.Control.{link, withLink, radioOf, stalled, unconfigured}
 use Rattle.queue.specs.Queue.{waitingTags}
 use Rattle.machine.specs.Machine.{Machine, machine, Call, Ran, stepped}
 use Rattle.refinement.specs.Seen.{replyOf}
@@ -85,4 +85,7 @@ coded w =
       next = λ y c. stepped y c .next;
       radio = λ y. held (radioOf (y .device .air .radio));
       waiting = λ y. waitingTags (y .commands) (y .device .air .first) (y .device .air .waiting);
+      session = λ y. y .device .link .session;
+      unconfigured = λ y. unconfigured (y .device .mode);
+      receiving = λ y. y .device .inbox .receiving;
     }
