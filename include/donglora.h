@@ -357,13 +357,17 @@ void donglora_busy(uint64_t control[DONGLORA_CONTROL], const uint8_t commands[DO
 void donglora_sent(uint64_t control[DONGLORA_CONTROL], uint32_t airtime_us, const uint8_t commands[DONGLORA_COMMANDS],
                    uint8_t *out, donglora_size out_len, struct donglora_answer *answer);
 
-/* The radio is set up as the last DONGLORA_CONFIGURE said. */
+/*
+ * The radio is set up as the last DONGLORA_CONFIGURE said. The host has its OK now; and where it had
+ * turned receiving on, the same answer orders DONGLORA_RECEIVE: the radio receives with what was set.
+ */
 void donglora_configured(uint64_t control[DONGLORA_CONTROL], const uint8_t commands[DONGLORA_COMMANDS], uint8_t *out,
                          donglora_size out_len, struct donglora_answer *answer);
 
 /*
  * The radio has failed, whatever it did. The host is told by an ERR with DONGLORA_ERADIO; a TX that
- * was with the radio is reported as cancelled.
+ * was with the radio is reported as cancelled. Where it was being set up, it is set up no more, and
+ * receiving is off.
  */
 void donglora_fault(uint64_t control[DONGLORA_CONTROL], const uint8_t commands[DONGLORA_COMMANDS], uint8_t *out,
                     donglora_size out_len, struct donglora_answer *answer);

@@ -190,7 +190,8 @@ impl Dongle {
         self.answer(&said, out)
     }
 
-    /// The radio is set up as the last [`Order::Configure`] said.
+    /// The radio is set up as the last [`Order::Configure`] said. Where the host had turned receiving
+    /// on, the order is [`Order::Receive`].
     ///
     /// # Errors
     ///
