@@ -358,8 +358,9 @@ void donglora_sent(uint64_t control[DONGLORA_CONTROL], uint32_t airtime_us, cons
                    uint8_t *out, donglora_size out_len, struct donglora_answer *answer);
 
 /*
- * The radio is set up as the last DONGLORA_CONFIGURE said. The host has its OK now; and where it had
+ * The radio is set up as the last DONGLORA_CONFIGURE said. The host gets its OK; and where it had
  * turned receiving on, the same answer orders DONGLORA_RECEIVE: the radio receives with what was set.
+ * Where the host is gone there is no OK, and the order is DONGLORA_STANDBY.
  */
 void donglora_configured(uint64_t control[DONGLORA_CONTROL], const uint8_t commands[DONGLORA_COMMANDS], uint8_t *out,
                          donglora_size out_len, struct donglora_answer *answer);
