@@ -21,7 +21,7 @@ use Rattle.board.specs.Ldro.{slow, ldro}
 use Rattle.device.specs.Messages.{messageBytes, messagesBytes}
 use Rattle.device.specs.Frames.{received, errorOf}
 use Rattle.device.specs.Reading.{frameIn, framesIn, frames, brings}
-use Rattle.device.specs.Events.{listens, idle, rearmed, step}
+use Rattle.device.specs.Events.{listens, idle, step}
 use Rattle.device.specs.Tally.{tallied}
 use Rattle.device.specs.Observer.{observed}
 use Rattle.device.specs.Due.{messagesDue, orderDue}
@@ -34,7 +34,7 @@ unfolding lay bit bits byte crcFrom crcOf
     runs isCommand loraOf loraBytes configOf configBytes syncWord
     infoHead infoBytes rxOf rxBytes configuredBytes txDoneBytes answerBytes
     among bitmap sx1262 boardInfo loraGood paramsGood slow ldro
-    messageBytes messagesBytes received errorOf listens idle rearmed step
+    messageBytes messagesBytes received errorOf listens idle step
     frameIn framesIn frames brings tallied observed
     messagesDue orderDue onward after history eframes dropCounts
 computes = tt

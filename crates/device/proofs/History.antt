@@ -1,8 +1,7 @@
 -- The demands on the defined device over every list of events from power-up: demands 1 and 2 by what was seen, what is written and ordered, what is written is
 -- read back, demand 3, 01's last line on events, the drop count, and when receiving is on.
 -- The idea: a history is good where its tally is that of its device (Keeping), and so is what the observer knows (Observing), each number is a value of its
--- type (Ranges), receiving is on only where it may be (Receiving), and its bytes are the wires of messages that are read back (Wires); one event more keeps
--- that.
+-- type (Ranges), and its bytes are the wires of messages that are read back (Wires); one event more keeps that.
 -- Assumes nothing.
 use mathlib.Core.Path.{_≡_, refl, sym, ap, ap₂, _∙_}
 use mathlib.Core.Bool.{Bool, true, false}
@@ -30,7 +29,6 @@ use Rattle.device.proofs.Wires.{AllSendable, sendable-append, wires-app
 use Rattle.device.proofs.Back.{all-back}
 use Rattle.device.proofs.Ranges as R
 use Rattle.device.proofs.Refusals.{demand1}
-use Rattle.device.proofs.Receiving.{Heard, off, heard-next, only-in-session, only-configured}
 use Rattle.device.proofs.Keeping.{length-open, tallyOf, tallyOut, Shaped, is-free, none-waits, Keeps, keeps, passed}
 use Rattle.device.proofs.Observing.{knownOf, knownOut, MatchesDue, returns}
 use Rattle.device.proofs.Due.{damage-due, eframes-due, drops-due}
@@ -42,7 +40,6 @@ record Good (b : Board) (h : History (defined b)) : Type 0 where
   agrees : h .tally ≡ tallyOf before (h .device)
   shaped : Shaped (h .device)
   ranges : R.StateIn (h .device)
-  hears : Heard (h .device)
   sent : List Message
   sendable : AllSendable sent
   bytes : h .bytes ≡ messagesBytes sent
@@ -102,7 +99,6 @@ module _ (b : Board) (board : BoardIn b) where
           agrees = tally-next;
           shaped = kept .shape;
           ranges = ranged .next;
-          hears = heard-next b (h .device) i (g .hears);
           sent = g .sent ++ step b (h .device) i .written;
           sendable = sendable-append (g .sent) (step b (h .device) i .written) (g .sendable) (ranged .sendable);
           bytes = rw (wires-append, g .bytes);
@@ -125,7 +121,6 @@ module _ (b : Board) (board : BoardIn b) where
         agrees = refl;
         shaped = is-free;
         ranges = R.at-power-up;
-        hears = off;
         sent = [];
         sendable = tt;
         bytes = refl;
@@ -315,8 +310,8 @@ module _ (b : Board) (board : BoardIn b) where
   receiving is l =
       let g = good is l in
       record {
-        in-session = only-in-session (g .hears);
-        configured = only-configured (g .hears);
+        in-session = R.in-session (g .ranges .receives);
+        configured = R.if-configured (g .ranges .receives);
         session-seen = rw (g .agrees);
         config-seen = rw (g .knows);
         receiving-seen = rw (g .knows);

@@ -22,7 +22,7 @@ use Rattle.device.specs.State.{disconnect, Input, Order, nothing, standb
 use Rattle.device.specs.Messages.{Frame, Message, ok, okInfo, err, txDone, seen}
 use Rattle.device.specs.Frames.{Received, damaged, command, errorOf, settingOf, txOf}
 use Rattle.device.specs.Reading.{brings}
-use Rattle.device.specs.Events.{Out, taken, changed, next, refused, begun, listens, idle, rearmed, writesFirst, onTx, ringEmptied, onSet, onCommand}
+use Rattle.device.specs.Events.{Out, taken, changed, next, refused, begun, listens, idle, writesFirst, onTx, ringEmptied, onSet, onCommand}
 use Rattle.device.specs.Events.{turned, unless, onReceived, onByte, onPacket, onRequest, onEvent, endSession, unlessRoom, step, roomMin, ticksMax}
 use Rattle.device.specs.Tally.{sessionEnded, afterTime, withTxs, radioReported, Entry, Tally, tally, ifTaken}
 use Rattle.device.specs.Tally.{afterTaken, afterOrder, unlessConfigure, nothingPending, noted, dones, newlyReported}
@@ -133,10 +133,10 @@ unfolding idle
 idle-settles true t = refl
 idle-settles false t = refl
 
-rearmed-ordered : (v : Bool) (t : Tally) → afterOrder (rearmed v) t ≡ t
-unfolding rearmed
-rearmed-ordered true t = refl
-rearmed-ordered false t = refl
+-- nor does such an order that is given in one case only
+if-ordered : (v : Bool) (o : Order) (t : Tally) → afterOrder o t ≡ t → afterOrder (cond v o nothing) t ≡ t
+if-ordered true o t e = e
+if-ordered false o t e = refl
 
 ruleset laws = (
   closed-append,
@@ -163,7 +163,6 @@ ruleset laws = (
   begun-runs,
   idle-ordered,
   idle-settles,
-  rearmed-ordered,
 )
 
 -- ---- each event
@@ -264,7 +263,8 @@ module _ (b : Board) (c : List Closed) where
     kept-configured is-onAir = refusal _ configured 2 is-onAir
     kept-configured is-orphan = refusal _ configured 2 is-orphan
     kept-configured is-alone = refusal _ configured 2 is-alone
-    kept-configured (is-configuring {v = true}) = same c _ configured _ (simp laws) refl is-free refl (λ z. omega arith)
+    kept-configured (is-configuring {v = true}) =
+        same c _ configured _ (ap nothingPending (if-ordered (i .receiving) receive _ refl)) refl is-free refl (λ z. omega arith)
     kept-configured (is-configuring {v = false}) = same c _ configured _ refl refl is-free refl (λ z. omega arith)
 
     kept-fault : {r : Radio} {ws : List Tx} {p : Option Setting} {v : Bool} {k : Option Config} → Shape r ws p v k → Keep fault r ws p v k
@@ -406,14 +406,10 @@ module _ (b : Board) (c : List Closed) where
     was-set kind t p y z is-configuring h e = absurd (true≢false h)
 
     -- the other commands: one message, and an order that the tally does not see
-    unseen : (u on : Bool) (t : Tally) → afterOrder (cond u (idle on) nothing) t ≡ t
-    unseen true on t = idle-ordered on t
-    unseen false on t = refl
-
     module _ (kind t : ℕ) (p : List ℕ) (y : eqb kind TX ≡ false) (z : eqb kind SET-CONFIG ≡ false)
         {x : Radio} {ws : List Tx} {v : Bool} {k : Option Config} (q : Shape x ws none v k) (h : runs? x ≡ false) where
       was-turned : (on : Bool) → Framed (command kind t p) (old x ws v k) (taken (turned on t (new x ws k i)))
-      was-turned on = writes _ _ _ _ q h (λ u. rw (y, z) (unseen (free? x && changed on (i .receiving)) on u)) refl
+      was-turned on = writes _ _ _ _ q h (λ u. rw (y, z) (if-ordered (free? x && changed on (i .receiving)) (idle on) u (idle-ordered on u))) refl
 
       was-asked : (m : Message) → dones (seen m ∷ []) ≡ [] → Framed (command kind t p) (old x ws v k) (taken (writesFirst m nothing (new x ws k i)))
       was-asked m w = writes _ m nothing i q h (λ u. rw (y, z)) w

@@ -9,6 +9,5 @@ pub mod Refusals
 pub mod Wires
 pub mod Back
 pub mod Ranges
-pub mod Receiving
 pub mod History
 pub mod Carrying

@@ -23,7 +23,7 @@ use Rattle.device.specs.State.{disconnect, Input, Order, nothing, standb
 use Rattle.device.specs.Messages.{Frame, Message, yes, ok, okInfo, err, txDone, rx, cancelled, seen}
 use Rattle.device.specs.Frames.{Received, damaged, command, received, errorOf, settingOf, txOf}
 use Rattle.device.specs.Events.{Out, taken, refused, listens, listensIn, begun, idle, next, writesFirst, turned, onTx, ringEmptied, onSet}
-use Rattle.device.specs.Events.{unless, onCommand, onReceived, onByte, unlessStalled, onClear, onBusy, onSent, rearmed, onConfigured, onFault, onPacket}
+use Rattle.device.specs.Events.{unless, onCommand, onReceived, onByte, unlessStalled, onClear, onBusy, onSent, onConfigured, onFault, onPacket}
 use Rattle.device.specs.Events.{onRequest, endSession, onTick, onDisconnect, onEvent, unlessRoom, step, roomMin, ticksMax}
 use Rattle.device.specs.Reading.{brings}
 use Rattle.device.specs.Tally.{Tally, ifTaken}
@@ -87,11 +87,6 @@ same-yes false = refl
 none-due : (v : Bool) → cond v nothing nothing ≡ nothing
 none-due true = refl
 none-due false = refl
-
-same-rearmed : (on : Bool) → rearmed on ≡ cond on receive nothing
-unfolding rearmed
-same-rearmed true = refl
-same-rearmed false = refl
 
 -- RX_START and RX_STOP
 turned-noted : (v on : Bool) (k : Observer) → orderNoted (cond v (idle on) nothing) k ≡ k
@@ -196,7 +191,7 @@ module _ (b : Board) (c : List Closed) (l : ℕ) where
     matches-configured v (listening t) ws p = refusal _ configured 2 d
     matches-configured v (onAir t) ws p = refusal _ configured 2 d
     matches-configured v orphan ws p = refusal _ configured 2 d
-    matches-configured true (configuring x) ws p = record { lost = l; knows = refl; drops = d; written = refl; order = same-rearmed (i .receiving) }
+    matches-configured true (configuring x) ws p = record { lost = l; knows = refl; drops = d; written = refl; order = refl }
     matches-configured false (configuring x) ws p = record { lost = l; knows = refl; drops = d; written = refl; order = refl }
 
     matches-fault : (v : Bool) (r : Radio) (ws : List Tx) (p : Option Setting) → Matches (has v r ws p) fault (taken (onFault r (has v r ws p)))

@@ -1,6 +1,7 @@
--- Each number of the state stays a value of its type, at most 16 TX are open, and what an event writes can be sent: no more than 283 bytes, nor more than 201
--- without an RX.
--- The idea: one way of ending for a TX, one for a session, and for each event a clause for every radio; a message is no longer than its fields say.
+-- Each number of the state stays a value of its type, at most 16 TX are open, receiving is on only in an open session and under a configuration, and what an
+-- event writes can be sent: no more than 283 bytes, nor more than 201 without an RX.
+-- The idea: one way of ending for a TX, one for a session, and for each event a clause for every radio; a message is no longer than its fields say. RX_START
+-- alone turns receiving on, which opens a session and needs a configuration; what takes either away turns it off.
 -- Assumes nothing.
 use mathlib.Core.Path.{_≡_, refl, sym, ap, _∙_}
 use mathlib.Core.Bool.{Bool, true, false, cond, not, _&&_, _||_, true≢false}
@@ -38,7 +39,7 @@ use Rattle.answer.specs.declared.Answer.the-variants as A
 use Rattle.board.specs.Board.{Board, ringMax, txMax, boardInfo, uidsOf, bitmap, sx1262}
 use Rattle.board.specs.Params.{paramsGood, fskGood, freqGood}
 use Rattle.device.specs.State.{Config, Setting, Tx, Radio, free, listening, onAir, orphan, configuring, Packet, Inbox, Air, State}
-use Rattle.device.specs.State.{link, air, inbox, state, withLink, withInbox, withReceiving, noReception, powerUp, held, tagsOf, open#}
+use Rattle.device.specs.State.{link, air, inbox, withLink, withAir, withInbox, withReceiving, noReception, powerUp, held, tagsOf, open#}
 use Rattle.device.specs.State.{Event, byte, tick, clear, busy, sent, configured, fault, packet, request, disconnect, Input, nothing}
 use Rattle.device.specs.State.{free?, stalled}
 use Rattle.device.specs.Messages.{Message, messagesBytes, ok, okInfo, okConfigured, err, txDone, rx, cancelled, seen}
@@ -87,10 +88,37 @@ pub record InboxIn (i : Inbox) : Type 0 where
   pub ring : Each HeldIn (i .ring)
   pub drops : i .drops ≤ dropsMax
 
+-- by the session, the configuration and whether receiving is on
+pub data Receives : Bool → Option Config → Bool → Type 0 where
+  is-off : {v : Bool} {c : Option Config} → Receives v c false
+  is-on : {c : Config} → Receives true (some c) true
+
 pub record StateIn (s : State) : Type 0 where
   pub run : Bytes (s .link .run)
   pub air : AirIn (s .air)
   pub inbox : InboxIn (s .inbox)
+  pub receives : Receives (s .link .session) (s .config) (s .inbox .receiving)
+
+pub in-session : {v on : Bool} {c : Option Config} → Receives v c on → on ≡ true → v ≡ true
+in-session is-off e = absurd (true≢false (sym e))
+in-session is-on e = refl
+
+pub if-configured : {v on : Bool} {c : Option Config} → Receives v c on → unconfigured c ≡ true → on ≡ false
+if-configured is-off e = refl
+if-configured is-on e = absurd (true≢false (sym e))
+
+-- a session is opened; a configuration is in force; receiving is turned on
+opened : {v on : Bool} {c : Option Config} → Receives v c on → Receives true c on
+opened is-off = is-off
+opened is-on = is-on
+
+set : {v on : Bool} {c : Option Config} (d : Config) → Receives v c on → Receives v (some d) on
+set d is-off = is-off
+set d is-on = is-on
+
+turned-on : (c : Option Config) → unconfigured c ≡ false → Receives true c true
+turned-on none e = absurd (true≢false e)
+turned-on (some c) e = is-on
 
 no-reception-in : InboxIn noReception
 no-reception-in = record { ring = tt; drops = omega arith }
@@ -106,7 +134,7 @@ idle-in : (r : Radio) → held r ≡ [] → RadioIn r → AirIn (air r [] none)
 idle-in r e x = record { tags = rw e tt; bounded = rw e (omega arith); radio = x; pending = tt }
 
 pub at-power-up : StateIn powerUp
-at-power-up = record { run = tt; air = idle-in free refl tt; inbox = no-reception-in }
+at-power-up = record { run = tt; air = idle-in free refl tt; inbox = no-reception-in; receives = is-off }
 
 -- ---- how long messages are
 
@@ -225,7 +253,7 @@ ended-in orphan x = idle-in orphan refl tt
 ended-in (configuring c) x = idle-in (configuring c) refl x
 
 end-kept : (r : Radio) → RadioIn r → Does (endSession r)
-end-kept r x = still record { run = tt; air = ended-in r x; inbox = no-reception-in }
+end-kept r x = still record { run = tt; air = ended-in r x; inbox = no-reception-in; receives = is-off }
 
 -- ---- packets
 
@@ -248,31 +276,41 @@ kept-in p k i h = go (ltb (length (i .ring)) ringMax)
     go true = record { ring = each-append HeldIn (i .ring) (p ∷ []) (h .ring) (k, tt); drops = h .drops }
     go false = record { ring = each-append HeldIn (drop 1 (i .ring)) (p ∷ []) later (k, tt); drops = omega arith }
 
+kept-receives : (p : Packet) (i : Inbox) → kept p i .receiving ≡ i .receiving
+kept-receives p i = go (ltb (length (i .ring)) ringMax)
+  where
+    go : (room : Bool)
+        → cond room (inbox (i .receiving) (i .ring ++ (p ∷ [])) (i .drops))
+        (inbox (i .receiving) (drop 1 (i .ring) ++ (p ∷ [])) (min (suc (i .drops)) dropsMax)) .receiving ≡ i .receiving
+    go true = refl
+    go false = refl
+
 -- ---- the events but byte
 
 module _ (s : State) (h : StateIn s) where
-  with-air : (c : Option Config) {a : Air} → AirIn a → StateIn (state c (s .link) a (s .inbox))
-  with-air c i = record { run = h .run; air = i; inbox = h .inbox }
+  with-air : {a : Air} → AirIn a → StateIn (withAir a s)
+  with-air i = record { run = h .run; air = i; inbox = h .inbox; receives = h .receives }
 
-  with-inbox : {i : Inbox} → InboxIn i → StateIn (withInbox i s)
-  with-inbox i = record { run = h .run; air = h .air; inbox = i }
+  with-inbox : {i : Inbox} → InboxIn i → Receives (s .link .session) (s .config) (i .receiving) → StateIn (withInbox i s)
+  with-inbox i k = record { run = h .run; air = h .air; inbox = i; receives = k }
 
-  with-run : {session : Bool} {ticks : ℕ} {run : List ℕ} → Bytes run → StateIn (withLink (link session ticks run) s)
-  with-run r = record { run = r; air = h .air; inbox = h .inbox }
+  with-run : {session : Bool} {ticks : ℕ} {run : List ℕ} → Bytes run → Receives session (s .config) (s .inbox .receiving)
+      → StateIn (withLink (link session ticks run) s)
+  with-run r k = record { run = r; air = h .air; inbox = h .inbox; receives = k }
 
   start-kept : (x : Tx) (ws : List Tx) → Each TagIn (tagsOf (x ∷ ws)) → length (tagsOf (x ∷ ws)) ≤ txMax → {n : ℕ} {ms : List Message}
       → Wired n ms → n ≤ 201 → Does (start x ws ms s)
-  start-kept x ws t bounded w l = keep (with-air _ (begun-in x ws t bounded (listens (s .config) (x .flags)))) w l
+  start-kept x ws t bounded w l = keep (with-air (begun-in x ws t bounded (listens (s .config) (x .flags)))) w l
 
   begin-kept : (c : Setting) → SettingIn c → {n : ℕ} {ms : List Message} → Wired n ms → n ≤ 201 → Does (begin c ms s)
-  begin-kept c k w l = keep (with-air _ (idle-in (configuring c) refl k)) w l
+  begin-kept c k w l = keep (with-air (idle-in (configuring c) refl k)) w l
 
   -- the four ways on after a TX
   next-kept : (p : Option Setting) → PendingIn p → (ws : List Tx) → Each TagIn (tagsOf ws) → {n : ℕ} {ms : List Message} → Wired n ms
       → n + 12 * length (tagsOf ws) ≤ 201 → Does (next p ws ms s)
   next-kept (some c) k ws t w l = begin-kept c k (both 201 w (cancels (tagsOf ws) t) l) (omega arith)
   next-kept none k (x ∷ ws) t w l = start-kept x ws t (omega arith) w (omega arith)
-  next-kept none k [] t w l = keep (with-air _ (idle-in free refl tt)) w (omega arith)
+  next-kept none k [] t w l = keep (with-air (idle-in free refl tt)) w (omega arith)
 
   after-kept : {n : ℕ} {ms : List Message} → Wired n ms → n + 12 * length (tagsOf (s .air .waiting)) ≤ 201 → Does (afterTx ms s)
   after-kept w l =
@@ -285,7 +323,7 @@ module _ (s : State) (h : StateIn s) where
 
   clear-kept : (r : Radio) → With r → Kept (onClear r s)
   clear-kept free i = still h
-  clear-kept (listening t) i = still (with-air _ (moved (listening t) (onAir t) refl tt (i .pending) i))
+  clear-kept (listening t) i = still (with-air (moved (listening t) (onAir t) refl tt (i .pending) i))
   clear-kept (onAir t) i = still h
   clear-kept orphan i = still h
   clear-kept (configuring c) i = still h
@@ -307,9 +345,10 @@ module _ (s : State) (h : StateIn s) where
   in-force-kept : (session : Bool) (c : Setting) → With (configuring c) → Does (inForce session c s)
   in-force-kept true c i =
       let k = i .radio .config in
+      let a = moved (configuring c) free refl tt (i .pending) i in
       writes (okConfigured c) (configured-sent c (i .radio .tag) k) (omega (arith, k .word, k .short))
-      (with-air _ (moved (configuring c) free refl tt (i .pending) i))
-  in-force-kept false c i = still (with-air _ (moved (configuring c) free refl tt (i .pending) i))
+      (record { run = h .run; air = a; inbox = h .inbox; receives = set (c .config) (h .receives) })
+  in-force-kept false c i = still (with-air (moved (configuring c) free refl tt (i .pending) i))
 
   configured-kept : (r : Radio) → With r → Kept (onConfigured r s)
   configured-kept free i = still h
@@ -329,11 +368,12 @@ module _ (s : State) (h : StateIn s) where
   fault-kept (onAir t) i = cancelled-kept t (i .tags .0) (i .bounded)
   fault-kept orphan i = after-kept (hears (s .link .session) 0 (omega arith)) (omega (arith, i .bounded))
   fault-kept (configuring c) i =
-      keep (record { run = h .run; air = moved (configuring c) free refl tt (i .pending) i; inbox = receiving-in false (h .inbox) })
-      (hears (s .link .session) (c .tag) (i .radio .tag .1)) (omega arith)
+      let a = moved (configuring c) free refl tt (i .pending) i in
+      let w = hears (s .link .session) (c .tag) (i .radio .tag .1) in
+      keep (record { run = h .run; air = a; inbox = receiving-in false (h .inbox); receives = is-off }) w (omega arith)
 
   packet-kept : (fits : Bool) (p : Packet) → PacketIn p → Kept (onPacket fits p s)
-  packet-kept true p k = still (with-inbox (kept-in (cut p) (cut-in p k) (s .inbox) (h .inbox)))
+  packet-kept true p k = still (with-inbox (kept-in (cut p) (cut-in p k) (s .inbox) (h .inbox)) (rw (kept-receives (cut p) (s .inbox)) (h .receives)))
   packet-kept false p k = still h
 
   request-kept : (ps : List Packet) → Each HeldIn ps → Does (onRequest ps s)
@@ -342,7 +382,7 @@ module _ (s : State) (h : StateIn s) where
       let l = k .0 .short in
       let w = one 283 (rx p (s .inbox .drops)) (rx-sent p (k .0 .values) l (s .inbox .drops) (h .inbox .drops)) (omega arith) in
       record {
-        next = with-inbox (record { ring = k .1; drops = omega arith });
+        next = with-inbox (record { ring = k .1; drops = omega arith }) (h .receives);
         sendable = w .sendable;
         most = w .size;
         others = λ e. absurd (true≢false e);
@@ -355,25 +395,25 @@ module _ (s : State) (h : StateIn s) where
           → Does (cond counts (cond last (endSession (s .air .radio)) (does (withLink (link true (suc (s .link .ticks)) (s .link .run)) s) [] nothing))
           (does s [] nothing))
       go true true = end-kept (s .air .radio) (h .air .radio)
-      go true false = still (with-run (h .run))
+      go true false = still (with-run (h .run) (opened (h .receives)))
       go false last = still h
 
-  disconnect-kept : (session : Bool) → Does (onDisconnect session s)
-  disconnect-kept true = end-kept (s .air .radio) (h .air .radio)
-  disconnect-kept false = still (with-run tt)
+  disconnect-kept : (session : Bool) → s .link .session ≡ session → Does (onDisconnect session s)
+  disconnect-kept true e = end-kept (s .air .radio) (h .air .radio)
+  disconnect-kept false e = still (with-run tt (rw e at (h .receives)))
 
   -- ---- a command without an error
 
   set-kept : (c : Setting) → SettingIn c → (r : Radio) → With r → Does (onSet c r s)
   set-kept c k free i = begin-kept c k (cancels (tagsOf (s .air .waiting)) (i .tags)) (omega (arith, i .bounded))
   set-kept c k (listening t) i = begin-kept c k (cancels (t ∷ tagsOf (s .air .waiting)) (i .tags)) (omega (arith, i .bounded))
-  set-kept c k (onAir t) i = still (with-air _ (moved (onAir t) (onAir t) refl tt k i))
-  set-kept c k orphan i = still (with-air _ (moved orphan orphan refl tt k i))
+  set-kept c k (onAir t) i = still (with-air (moved (onAir t) (onAir t) refl tt k i))
+  set-kept c k orphan i = still (with-air (moved orphan orphan refl tt k i))
   set-kept c k (configuring d) i = begin-kept c k (cancels (tagsOf (s .air .waiting)) (i .tags)) (omega (arith, i .bounded))
 
   module _ (x : Tx) (k : TagIn (x .tag)) where
     waits-kept : (r : Radio) → With r → open# (air r (s .air .waiting) (s .air .pending)) < txMax → Does (waitsFor x r s)
-    waits-kept r i l = writes (ok (x .tag)) (ok-sent (x .tag) k) (omega arith) (with-air _ (joined x k r l i))
+    waits-kept r i l = writes (ok (x .tag)) (ok-sent (x .tag) k) (omega arith) (with-air (joined x k r l i))
 
     tx-kept : (r : Radio) → With r → open# (air r (s .air .waiting) (s .air .pending)) < txMax → Does (onTx x r s)
     tx-kept free i l = start-kept x (s .air .waiting) (k, i .tags) l (one 7 (ok (x .tag)) (ok-sent (x .tag) k) (omega arith)) (omega arith)
@@ -382,14 +422,22 @@ module _ (s : State) (h : StateIn s) where
     tx-kept orphan i l = waits-kept orphan i l
     tx-kept (configuring c) i l = waits-kept (configuring c) i l
 
-  turned-kept : (on : Bool) (t : ℕ) → TagIn t → Does (turned on t s)
-  turned-kept on t k = writes (ok t) (ok-sent t k) (omega arith) (with-inbox (receiving-in on (h .inbox)))
+  turned-kept : (on : Bool) (t : ℕ) → TagIn t → Receives (s .link .session) (s .config) on → Does (turned on t s)
+  turned-kept on t k r = writes (ok t) (ok-sent t k) (omega arith) (with-inbox (receiving-in on (h .inbox)) r)
 
 -- ---- what steps 1 to 7 tell
 
 and-right : (a b : Bool) → (a && b) ≡ true → b ≡ true
 and-right true b e = e
 and-right false b e = cc
+
+and-left : (a b : Bool) → b ≡ true → (a && b) ≡ false → a ≡ false
+and-left true b t e = absurd (true≢false (sym t ∙ e))
+and-left false b t e = refl
+
+-- RX_START needs a configuration
+needs-config : (kind : ℕ) → eqb kind RX-START ≡ true → needsConfig kind ≡ true
+needs-config kind x = rw (eqb-true kind RX-START x)
 
 -- the sync word that a SET_CONFIG brings has the length that its parameters say, 8 bytes at most
 fsk-short : (b : Board) (m : Fsk) → fskGood b m ≡ true → m .«sync_word_len» ≤ syncWordMax
@@ -418,6 +466,7 @@ word-in b (x ∷ bs) s z g = go (eqb (get «modulation_id» (x ∷ bs)) LORA) re
 module _ (b : Board) (s : State) (kind : ℕ) (p : List ℕ) where
   -- of a command that no step objects to: what was tested
   record Passed : Type 0 where
+    ready : (unconfigured (s .config) && needsConfig kind) ≡ false
     known : (eqb kind SET-CONFIG && otherModulation p) ≡ false
     size : sized kind p ≡ true
     params : good b kind p ≡ true
@@ -441,11 +490,14 @@ module _ (b : Board) (s : State) (kind : ℕ) (p : List ℕ) where
       test (not (sized kind p)) ELENGTH _ (omega arith) (λ a₅.
       test (not (good b kind p)) EPARAM _ (omega arith) (λ a₆.
       test (eqb kind TX && leb txMax (open# (s .air))) EBUSY none (omega arith) (λ a₇.
-      record { known = a₄; size = not-false (sized kind p) a₅; params = not-false (good b kind p) a₆; room = a₇ }))))))
+      record { ready = a₃; known = a₄; size = not-false (sized kind p) a₅; params = not-false (good b kind p) a₆; room = a₇ }))))))
 
   module _ (h : Passed) where
     tx-fits : eqb kind TX ≡ true → open# (s .air) < txMax
     tx-fits x = leb-false txMax (open# (s .air)) (rw x at (h .room))
+
+    rx-starts : eqb kind RX-START ≡ true → Receives true (s .config) true
+    rx-starts x = turned-on (s .config) (and-left (unconfigured (s .config)) (needsConfig kind) (needs-config kind x) (h .ready))
 
     set-in : eqb kind SET-CONFIG ≡ true → (t : ℕ) → TagIn t → Bytes p → SettingIn (settingOf t p)
     set-in x t k bytes =
@@ -473,26 +525,28 @@ received-in run h = go (openAnswer run encodedMax) refl
 uids-short : (b : Board) → BoardIn b → length (uidsOf b) ≤ 48
 uids-short b h = rw (length-append (b .mcu-uid) (b .radio-uid)) (omega (arith, h .mcu-uid, h .radio-uid))
 
-module _ (b : Board) (board : BoardIn b) (s : State) (h : StateIn s) where
+-- in an open session
+module _ (b : Board) (board : BoardIn b) (s : State) (h : StateIn s) (awake : s .link .session ≡ true) where
   module _ (kind t : ℕ) (p : List ℕ) (k : TagIn t) (bytes : Bytes p) where
     command-kept : Passed b s kind p → Does (onCommand b kind t p s)
-    command-kept e = go (eqb kind TX) refl (eqb kind SET-CONFIG) refl (eqb kind RX-START) (eqb kind RX-STOP) (eqb kind GET-INFO)
+    command-kept e = go (eqb kind TX) refl (eqb kind SET-CONFIG) refl (eqb kind RX-START) refl (eqb kind RX-STOP) (eqb kind GET-INFO)
       where
-        go : (tx : Bool) → eqb kind TX ≡ tx → (set : Bool) → eqb kind SET-CONFIG ≡ set → (rx-start rx-stop get-info : Bool)
+        go : (tx : Bool) → eqb kind TX ≡ tx → (set : Bool) → eqb kind SET-CONFIG ≡ set → (rx-start : Bool) → eqb kind RX-START ≡ rx-start
+            → (rx-stop get-info : Bool)
             → Does (cond tx (onTx (txOf t p) (s .air .radio) s)
             (cond set (onSet (settingOf t p) (s .air .radio) (withInbox (ringEmptied (s .inbox)) s))
             (cond rx-start (turned true t s)
             (cond rx-stop (turned false t s)
             (cond get-info (writesFirst (okInfo b t) nothing s)
             (writesFirst (ok t) nothing s))))))
-        go true x set y c d f = tx-kept s h (txOf t p) k (s .air .radio) (h .air) (tx-fits b s kind p e x)
-        go false x true y c d f =
-            set-kept (withInbox (ringEmptied (s .inbox)) s) (with-inbox s h (emptied-in (s .inbox))) (settingOf t p) (set-in b s kind p e y t k bytes)
-            (s .air .radio) (h .air)
-        go false x false y true d f = turned-kept s h true t k
-        go false x false y false true f = turned-kept s h false t k
-        go false x false y false false true = writes (okInfo b t) (info-sent b board t k) (omega (arith, uids-short b board)) h
-        go false x false y false false false = writes (ok t) (ok-sent t k) (omega arith) h
+        go true x set y c z d f = tx-kept s h (txOf t p) k (s .air .radio) (h .air) (tx-fits b s kind p e x)
+        go false x true y c z d f =
+            set-kept (withInbox (ringEmptied (s .inbox)) s) (with-inbox s h (emptied-in (s .inbox)) (h .receives)) (settingOf t p)
+            (set-in b s kind p e y t k bytes) (s .air .radio) (h .air)
+        go false x false y true z d f = turned-kept s h true t k (rw awake (rx-starts b s kind p e z))
+        go false x false y false z true f = turned-kept s h false t k is-off
+        go false x false y false z false true = writes (okInfo b t) (info-sent b board t k) (omega (arith, uids-short b board)) h
+        go false x false y false z false false = writes (ok t) (ok-sent t k) (omega arith) h
 
     unless-kept : (o : Option ℕ) → Told b s kind p o → Does (unless o b kind t p s)
     unless-kept (some code) c = writes (err code t) (err-sent code c t (k .1)) (omega arith) h
@@ -505,11 +559,13 @@ module _ (b : Board) (board : BoardIn b) (s : State) (h : StateIn s) where
 module _ (b : Board) (board : BoardIn b) (s : State) (h : StateIn s) where
   run-kept : (run : List ℕ) → Bytes run → Does (onRun b run s)
   run-kept [] r = still h
-  run-kept (x ∷ xs) r = received-kept b board (withLink (link true 0 []) s) (with-run s h tt) (received (x ∷ xs)) (received-in (x ∷ xs) r)
+  run-kept (x ∷ xs) r =
+      let awake = with-run s h tt (opened (h .receives)) in
+      received-kept b board (withLink (link true 0 []) s) awake refl (received (x ∷ xs)) (received-in (x ∷ xs) r)
 
   byte-kept : (n : ℕ) → n < 256 → Does (onByte b n s)
   byte-kept zero l = run-kept (s .link .run) (h .run)
-  byte-kept (suc n) l = still (with-run s h (each-append IsByte (s .link .run) (suc n ∷ []) (h .run) (l, tt)))
+  byte-kept (suc n) l = still (with-run s h (each-append IsByte (s .link .run) (suc n ∷ []) (h .run) (l, tt)) (h .receives))
 
   stalled-kept : (stall : Bool) (n : ℕ) → n < 256 → Kept (unlessStalled stall b n s)
   stalled-kept true n l = still h
@@ -527,7 +583,7 @@ module _ (b : Board) (board : BoardIn b) (s : State) (h : StateIn s) where
   event-kept fault l = fault-kept s h (s .air .radio) (h .air)
   event-kept (packet p) l = packet-kept s h (s .inbox .receiving && free? (s .air .radio)) p l
   event-kept request l = request-kept s h (s .inbox .ring) (h .inbox .ring)
-  event-kept disconnect l = disconnect-kept s h (s .link .session)
+  event-kept disconnect l = disconnect-kept s h (s .link .session) refl
 
   room-kept : (short : Bool) (e : Event) → EventIn e → Kept (unlessRoom short b e s)
   room-kept true e l = still h

@@ -363,6 +363,7 @@ broughtOrder (right kind t p) k =
     (cond (eqb kind RX-STOP) (ifFree (k .air .radio) (cond (k .inbox .receiving) standby nothing))
     nothing)))
 
+-- by each event; configured by 02 §1, P 3.5 and 6.3: the radio that was receiving receives again
 abbrev pub eventOrder : Board → Event → Tally → Observer → Order
 eventOrder b (byte n) t k = broughtOrder (byteBrings b n (t .run) k) k
 eventOrder b tick t k = cond (tickEnds t) standby nothing

@@ -145,9 +145,8 @@ onSet c (configuring d) s = begin c (cancelled (tagsOf (s .air .waiting))) s
 -- ---- configured
 
 -- continuous receive is armed again where receiving is on, and the radio is told nothing where it is off: 02 §1, P 3.5 and 6.3
-unfoldable pub rearmed : Bool → Order
-rearmed true = receive
-rearmed false = nothing
+abbrev pub rearmed : Bool → Order
+rearmed on = cond on receive nothing
 
 -- CONFIGURED, and the OK that was withheld. Where the session has ended, neither: the radio goes to standby.
 abbrev pub inForce : Bool → Setting → State → Done
@@ -169,8 +168,8 @@ abbrev pub ifSession : Bool → Message → List Message
 ifSession true m = m ∷ []
 ifSession false m = []
 
--- While configuring, it fails the SET_CONFIG: ERR(ERADIO) with its tag, UNCONFIGURED, receiving ends, standby. Otherwise ERR(ERADIO) comes with tag 0, then
--- the TX with the radio is reported with 2, and then all goes on as after a TX.
+-- While configuring, it fails the SET_CONFIG: ERR(ERADIO) with its tag, UNCONFIGURED, standby, and by 02 §1 receiving ends. Otherwise ERR(ERADIO) comes with
+-- tag 0, then the TX with the radio is reported with 2, and then all goes on as after a TX.
 abbrev pub onFault : Radio → State → Done
 onFault free s = afterTx (ifSession (s .link .session) (err ERADIO 0)) s
 onFault (listening t) s = afterTx (ifSession (s .link .session) (err ERADIO 0) ++ (txDone CANCELLED 0 t ∷ [])) s

@@ -59,7 +59,7 @@ settingIn t p = record { tag = t; config = record { modulation = configOf p; wor
 abbrev pub receives : Bool → Observer → Observer
 receives on k = withInbox (inbox on (k .inbox .ring) (k .inbox .drops)) k
 
--- nothing is held any more; receiving goes on if it was on
+-- nothing is held any more; receiving goes on if it was on: 02 §1
 abbrev pub ringCleared : Inbox → Inbox
 ringCleared i = inbox (i .receiving) [] 0
 
@@ -97,7 +97,7 @@ clearNoted (configuring c) = configuring c
 abbrev pub radioEnds : Observer → Observer
 radioEnds k = withAir (air free (k .air .waiting) (k .air .pending)) k
 
--- a fault while configuring also ends receiving, and leaves no configuration
+-- a fault while configuring also ends receiving, by 02 §1, and leaves no configuration
 abbrev pub faultNoted : Radio → Observer → Observer
 faultNoted free k = radioEnds k
 faultNoted (listening t) k = radioEnds k

@@ -55,8 +55,7 @@ okConfigured m = frame OK (tagAt m setting) (APPLIED ∷ MINE ∷ payloadAt m se
 
 -- receive where receiving is on, and nothing where it is off
 abbrev pub rearmed : Bool → Order
-rearmed true = Receive
-rearmed false = Nothing
+rearmed on = cond on Receive Nothing
 
 -- the configuration is in force, unless its session has ended: then the radio goes to standby
 abbrev pub inForce : Bool → List ℕ → Device → Done

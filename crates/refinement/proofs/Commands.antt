@@ -43,7 +43,7 @@ use Rattle.refinement.proofs.Slots.{laid, wheel16, ring-push, ring-apar
 use Rattle.refinement.proofs.Stands.{SetAt, RadioAs, as-free, as-listening, as-onAir, as-orphan, as-configuring, PendingAs, as-none, as-some}
 use Rattle.refinement.proofs.Stands.{txSlot, TxAt, Queue, AirAs, Stands, Agrees, quietly, empty-inbox, with-receiving, with-air, with-inbox}
 use Rattle.refinement.proofs.Stands.{same-unconfigured}
-use Rattle.refinement.proofs.Outcomes.{length-tags, begins, starts, idle-as}
+use Rattle.refinement.proofs.Outcomes.{length-tags, begins, starts, idle-as, if-as}
 use Rattle.refinement.proofs.Inbox.{same-free}
 
 -- ---- another memory, where no SET_CONFIG waits or runs
@@ -249,12 +249,8 @@ module _ {d : Device} {run m ps : List ℕ} {s : State} (h : Stands d run m ps s
         writes = refl;
         order =
             ap₂ (λ (v w : Bool). orderIn m (cond (v && changed on w) (idle on) Nothing)) (same-free (h .air .radio)) (h .inbox .receiving)
-            ∙ go (S.free? (s .air .radio) && changed on (s .inbox .receiving));
+            ∙ if-as m (S.free? (s .air .radio) && changed on (s .inbox .receiving)) (idle on) (idle-as m on);
       }
-    where
-      go : (v : Bool) → orderIn m (cond v (idle on) Nothing) ≡ cond v (E.idle on) S.nothing
-      go true = idle-as m on
-      go false = refl
 
   pub answers : (a : Message) → Agrees (does d (seen a ∷ []) Nothing) run m ps (E.writesFirst a S.nothing s)
   answers a = record { next = h; writes = refl; order = refl }

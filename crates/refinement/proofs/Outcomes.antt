@@ -2,7 +2,7 @@
 -- The idea: what comes after a TX goes by the same cases in both, and each outcome is that, or a refusal, or one step.
 -- Assumes nothing.
 use mathlib.Core.Path.{_≡_, refl, sym, ap, ap₂, subst, _∙_}
-use mathlib.Core.Bool.{Bool, true, false}
+use mathlib.Core.Bool.{Bool, true, false, cond}
 use mathlib.Core.List.{List, [], _∷_, _++_, map, map-append, append-nil, append-assoc}
 use mathlib.Core.Option.{Option, none, some}
 use Prim.Native.Nat.{ℕ, zero, suc, _+_, _%_, _≤_, _<_, min}
@@ -19,8 +19,10 @@ use Rattle.device.proofs.Back.{TagIn}
 use Rattle.device.proofs.Ranges.{AirIn}
 use Rattle.control.specs.declared.Radio.{Radio}
 use Rattle.control.specs.declared.Device.{Device}
+use Rattle.control.specs.declared.Order.{Order}
+use Rattle.control.specs.declared.Order.the-variants.{Nothing, Receive}
 use Rattle.control.specs.Control.{withRadio, Done, writesFirst, idle}
-use Rattle.outcome.specs.Outcomes.{faultFrames, lost, onClear, onBusy, onSent, rearmed, onFault, inForce, onConfigured}
+use Rattle.outcome.specs.Outcomes.{faultFrames, lost, onClear, onBusy, onSent, onFault, inForce, onConfigured}
 use Rattle.slot.specs.Slots.{headAt}
 use Rattle.queue.specs.Queue.{listens, begun, start, waitingTags, begin, next, afterTx}
 use Rattle.refinement.specs.Seen.{orderIn}
@@ -51,10 +53,10 @@ unfolding E.idle
 idle-as m true = refl
 idle-as m false = refl
 
-rearmed-as : (m : List ℕ) (v : Bool) → orderIn m (rearmed v) ≡ E.rearmed v
-unfolding E.rearmed
-rearmed-as m true = refl
-rearmed-as m false = refl
+-- an order that is given in one case only
+pub if-as : (m : List ℕ) (v : Bool) (o : Order) {q : S.Order} → orderIn m o ≡ q → orderIn m (cond v o Nothing) ≡ cond v q S.nothing
+if-as m true o e = e
+if-as m false o e = refl
 
 -- ---- what comes after a TX
 
@@ -203,6 +205,6 @@ module _ {d : Device} {run m p : List ℕ} {s : State} (h : Stands d run m p s) 
           record {
             next = record { link = h .link; mode = set-mode x; air = turns as-free; inbox = h .inbox };
             writes = ap (λ (f : Frame). f ∷ []) (set-ok x);
-            order = rw (h .inbox .receiving) (rearmed-as m (s .inbox .receiving));
+            order = rw (h .inbox .receiving) (if-as m (s .inbox .receiving) Receive refl);
           }
       go false = record { next = with-air h (turns as-free); writes = refl; order = refl }
