@@ -226,6 +226,30 @@ static void check_reception(void)
     CHECK(answer.number == DONGLORA_TAKEN && answer.written == 0);
 }
 
+/* Set again while it receives, it receives again; not once that has failed, nor where the host is gone. */
+static void check_set_again(void)
+{
+    configured();
+    command(DONGLORA_RX_START, 2, NULL, 0);
+    command(DONGLORA_SET_CONFIG, 3, config, sizeof config - 1);
+    CHECK(answer.written == 0 && answer.order == DONGLORA_CONFIGURE);
+    donglora_configured(control, commands, out, sizeof out, &answer);
+    CHECK(told(DONGLORA_OK, 3, 0) && answer.order == DONGLORA_RECEIVE);
+    command(DONGLORA_RX_START, 4, NULL, 0);
+    CHECK(told(DONGLORA_OK, 4, 0) && answer.order == DONGLORA_NOTHING);
+    command(DONGLORA_SET_CONFIG, 5, config, sizeof config - 1);
+    donglora_fault(control, commands, out, sizeof out, &answer);
+    CHECK(told(DONGLORA_ERR, 5, DONGLORA_ERADIO) && answer.order == DONGLORA_STANDBY);
+    command(DONGLORA_SET_CONFIG, 6, config, sizeof config - 1);
+    donglora_configured(control, commands, out, sizeof out, &answer);
+    CHECK(told(DONGLORA_OK, 6, 0) && answer.order == DONGLORA_NOTHING);
+    command(DONGLORA_RX_START, 7, NULL, 0);
+    command(DONGLORA_SET_CONFIG, 8, config, sizeof config - 1);
+    donglora_disconnect(control, sizeof out, &answer);
+    donglora_configured(control, commands, out, sizeof out, &answer);
+    CHECK(answer.number == DONGLORA_TAKEN && answer.written == 0 && answer.order == DONGLORA_STANDBY);
+}
+
 /* A packet of no bytes may have no pointer. */
 static void check_null(void)
 {
@@ -289,6 +313,7 @@ int main(void)
     check_tx();
     check_ends();
     check_reception();
+    check_set_again();
     check_null();
     check_answers();
     printf("dongle in " LANGUAGE ": %d checks, %d failed\n", checks, failed);
