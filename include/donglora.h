@@ -57,6 +57,7 @@ typedef uint64_t donglora_size;
 #define DONGLORA_TAG    8 /* the tag is zero and must not be, or the other way round */
 #define DONGLORA_TYPE   9 /* the message is of another type */
 #define DONGLORA_FORM  10 /* the payload is not of that message's layout or values */
+#define DONGLORA_LEDGER 11 /* all lines of the host's ledger are open */
 
 /* The message types that a host sends. */
 #define DONGLORA_PING       0x01
@@ -236,6 +237,89 @@ struct donglora_tx_done {
  */
 struct donglora_tx_done donglora_read_tx_done(const uint8_t *run, donglora_size run_len, uint8_t *body,
                                               donglora_size body_len);
+
+/*
+ * What a frame says of itself, of whatever type and tag: reads run, a frame without its zero, and puts
+ * its body at the start of body. So a host learns the type and the tag before it knows which command an
+ * OK answers; the ledger below tells that, and then donglora_read_answer judges the payload. No payload
+ * is judged here, nor a type or a tag; type may be any number.
+ *
+ * number, the first that applies:
+ *   DONGLORA_LENGTH  run_len is over DONGLORA_ENCODED_MAX
+ *   DONGLORA_SHORT   body_len is under run_len, even where the body would have fitted
+ *   DONGLORA_STUFF   run is no COBS encoding
+ *   DONGLORA_LENGTH  the body is outside 5 to 280 bytes
+ *   DONGLORA_CHECK   the check value differs
+ *   DONGLORA_TAKEN   done
+ */
+struct donglora_message donglora_read_frame(const uint8_t *run, donglora_size run_len, uint8_t *body,
+                                            donglora_size body_len);
+
+/*
+ * ---- The ledger of open tags ----
+ *
+ * A host that has several commands open at a time keeps one ledger for each dongle. It asks the ledger
+ * for the tag of each command, and tells it the type and the tag of each answer; the ledger tells which
+ * command that answers. Sixteen commands can be open. No two of them have the same tag.
+ *
+ *  1. Once, before all else: donglora_ledger_new.
+ *  2. For each command: donglora_ledger_open gives the tag, with which the frame is written and sent.
+ *  3. For each frame that comes: donglora_read_frame, and then donglora_ledger_answer with its type and
+ *     tag. Where the verdict is DONGLORA_FITS, its payload is that of the answer to report.command.
+ *  4. Where the dongle was unplugged, or its session has ended: donglora_ledger_connect. What was open
+ *     gets no answer any more, and one that still comes is unexpected.
+ *
+ * A ledger is an array of words, which the host keeps between calls and does not change itself. With
+ * whatever it is filled, no call reads or writes anything else: word 0 has the number that the next tag is
+ * looked for from in its low half, and the open lines in its high half, line n as bit n; word 1 + n has
+ * line n, its tag in the low half, its command in the next byte, and 1 in the highest where that is a TX
+ * that has its OK.
+ */
+#define DONGLORA_LEDGER_WORDS 17
+#define DONGLORA_LEDGER_LINES 16
+
+/* A ledger with no open command, whose first tag will be 1. */
+void donglora_ledger_new(uint32_t ledger[DONGLORA_LEDGER_WORDS]);
+
+/*
+ * Opens a command, one of DONGLORA_PING to DONGLORA_RX_STOP, and stores its tag in *tag and its line in
+ * *line. The line is the lowest that is free, 0 to 15; until the command is closed no other has it, so it
+ * can be the place of what a host keeps about the command. The tags go up by one, and on from 0xFFFF to 1,
+ * and pass over those that are open.
+ *
+ * Answers, the first that applies:
+ *   DONGLORA_LEDGER  sixteen commands are open
+ *   DONGLORA_TYPE    command is none of the six
+ *   DONGLORA_TAKEN   done
+ *
+ * On a refusal *tag, *line and the ledger stay as they were.
+ */
+uint8_t donglora_ledger_open(uint32_t ledger[DONGLORA_LEDGER_WORDS], uint8_t command, uint16_t *tag,
+                             uint8_t *line);
+
+/* What an answer is to the ledger: the verdict. */
+#define DONGLORA_UNEXPECTED 0 /* no open command waits for it: late, doubled, or of another's */
+#define DONGLORA_NOBODYS    1 /* it answers no command: an RX, or an ERR with tag 0 */
+#define DONGLORA_FITS       2 /* it answers an open command */
+
+/* Where the verdict is not DONGLORA_FITS, the other fields are 0. */
+struct donglora_report {
+    uint8_t verdict;
+    uint8_t command; /* the command that it answers */
+    uint8_t line;    /* its line */
+    uint8_t closed;  /* 1 where that closes it; 0 at the OK to a TX, which waits for its TX_DONE */
+};
+
+/*
+ * Takes an answer, by the type and the tag of its frame: the payload does not matter. OK and ERR fit an
+ * open command with that tag, and close it; but the OK to a TX leaves it open, and from then on TX_DONE
+ * alone fits, and closes it. What is nobody's or unexpected changes nothing.
+ */
+struct donglora_report donglora_ledger_answer(uint32_t ledger[DONGLORA_LEDGER_WORDS], uint8_t type,
+                                              uint16_t tag);
+
+/* A new connection: all lines are free. The tags go on, so a late answer of the old one is unexpected. */
+void donglora_ledger_connect(uint32_t ledger[DONGLORA_LEDGER_WORDS]);
 
 /*
  * ---- The dongle ----

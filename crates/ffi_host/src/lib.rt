@@ -7,7 +7,7 @@ ghost use Rattle.status.specs.Result.{valueOr};
 ghost use Rattle.cobs.specs.Decoding.{decoded};
 ghost use Rattle.cobs.specs.Answers.{encodeAnswer, encodeLeft, encodedResult, decodeAnswer, decodeLeft, decodedResult};
 ghost use Rattle.frame.specs.Writing.{writtenResult};
-ghost use Rattle.frame.specs.Reading.{openedResult};
+ghost use Rattle.frame.specs.Reading.{openedResult, openAnswer, openLeft};
 ghost use Rattle.rx.specs.Rx.{rxSize};
 ghost use Rattle.answer.specs.Answers.{txDoneSize};
 ghost use Rattle.reader.specs.Reading.{receiveAnswer, receiveLeft};
@@ -80,13 +80,38 @@ pub fn write_command(kind: u8, tag: u16, payload: &[u8], dst: &mut [u8], written
     }
 }
 
-// What the frame of an answer says, for C: struct donglora_message.
+// What a frame says of its message, for C: struct donglora_message.
 #[repr(C)]
 pub struct MessageReport {
     pub number: u8,
     pub kind: u8,
     pub tag: u16,
     pub payload_len: usize,
+}
+
+// Reads a frame of whatever type and tag, and puts its body at the start of body.
+pub fn read_frame(run: &[u8], body: &mut [u8]) -> MessageReport
+    ensures { λ r. ⌜ r ≡ messageReport (openedResult (openAnswer (now (run .entry)) (length (now (body .entry))))) ⌝ }
+    ensures { λ r. ⌜ now (body .exit) ≡ openLeft (now (run .entry)) (now (body .entry)) ⌝ }
+{
+    match frame::open(run, body) {
+        Opened::Body {
+            kind: k,
+            tag: t,
+            len: n,
+        } => MessageReport {
+            number: TAKEN,
+            kind: k,
+            tag: t,
+            payload_len: n,
+        },
+        Opened::Refused(r) => MessageReport {
+            number: status::refusal_number(r),
+            kind: 0,
+            tag: 0,
+            payload_len: 0,
+        },
+    }
 }
 
 // The command that a number names, where an OK is read.

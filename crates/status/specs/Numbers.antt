@@ -45,3 +45,7 @@ TYPE = 9
 -- a payload that is not of that message's layout or values
 abbrev pub FORM : ℕ
 FORM = 10
+
+-- 02 §2: a command while sixteen lines of the ledger are open
+abbrev pub LEDGER : ℕ
+LEDGER = 11

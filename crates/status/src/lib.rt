@@ -36,6 +36,9 @@ pub const TYPE: u8 = 9;
 // The payload is not one of this type.
 pub const FORM: u8 = 10;
 
+// All lines of the host's ledger are open: 02 §2.
+pub const LEDGER: u8 = 11;
+
 // Why a reader or a writer refuses: 4 to 10 of the table.
 pub enum Refusal {
     Short,
