@@ -4,4 +4,6 @@ mod Pigeonhole
 pub mod Vacancy
 pub mod Verdicts
 pub mod Openings
+mod Changes
+mod Known
 pub mod Histories

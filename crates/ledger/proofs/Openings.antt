@@ -41,7 +41,10 @@ opens-right l command f =
     record {
       full = λ e. ap openedResult (sym (answer-by l command (freshOf l) (lowestFree l) (eq-eqb _ _ e) refl refl refl));
       type = λ room e. ap openedResult (sym (answer-by l command (freshOf l) (lowestFree l) (ne-eqb _ _ room) e refl refl));
-      given = λ room e. (record { tag = freshTag l; line = lowestFree l },
+      given = λ room e. (
+        record { tag = freshTag l; line = lowestFree l },
         ap openedResult (sym (answer-by l command (freshOf l) (lowestFree l) (ne-eqb _ _ room) e refl refl)),
-        first-vacant (l .lines) (l .used) (l .counter) (f .counter) (f .lines), lowest-line l f room);
+        first-vacant (l .lines) (l .used) (l .counter) (f .counter) (f .lines),
+        lowest-line l f room,
+      );
     }

@@ -9,7 +9,7 @@ use Prim.Native.Nat.{ℕ, zero, suc, _+_, _/_, _%_, _≤_, _<_}
 use native.Mathlib.Nat.{not-suc-le-zero, le-of-suc-le-suc}
 use native.Mathlib.Numerals.{add-one}
 use native.Mathlib.Omega.{arith}
-use borrow.Author.Tests.{eqb-true, eq-eqb, ne-eqb}
+use borrow.Author.Tests.{eqb-true, eq-eqb}
 use lib.Dec.{eqb}
 use lib.ListN.{length, drop, getD}
 use lib.Seq.{drop-cons}
@@ -24,23 +24,20 @@ true-or-false false = inr refl
 
 -- ---- one line after another
 
+owner-cons : (x : Line) (xs : List Line) (u tag n : ℕ) {b : Bool} → hasTag tag x u ≡ b
+    → ownerFrom n (x ∷ xs) u tag ≡ cond b (some n) (ownerFrom (suc n) xs (u / 2) tag)
+unfolding ownerFrom
+owner-cons x xs u tag n e = ap (λ (z : Bool). cond z (some n) (ownerFrom (suc n) xs (u / 2) tag)) e
+
 -- the lines from number i on
 abbrev pub ownerAt : ℕ → List Line → ℕ → ℕ → Option ℕ
 ownerAt i xs u tag = ownerFrom i (drop i xs) u tag
 
-owner-at : (xs : List Line) (i : ℕ) (d : Line) (u tag : ℕ) → i < length xs
-    → ownerAt i xs u tag ≡ cond (hasTag tag (getD xs i d) u) (some i) (ownerAt (i + 1) xs (u / 2) tag)
-unfolding ownerFrom
-owner-at xs i d u tag h =
-    ap (λ (l : List Line). ownerFrom i l u tag) (drop-cons xs i d h)
-    ∙ ap (λ (j : ℕ). cond (hasTag tag (getD xs i d) u) (some i) (ownerAt j xs (u / 2) tag)) (sym (add-one i))
-
-pub owner-hit : (xs : List Line) (i : ℕ) (d : Line) (u tag : ℕ) → i < length xs → hasTag tag (getD xs i d) u ≡ true → ownerAt i xs u tag ≡ some i
-owner-hit xs i d u tag h e = owner-at xs i d u tag h ∙ ap (λ (z : Bool). cond z (some i) (ownerAt (i + 1) xs (u / 2) tag)) e
-
-pub owner-miss : (xs : List Line) (i : ℕ) (d : Line) (u tag : ℕ) → i < length xs → hasTag tag (getD xs i d) u ≡ false
-    → ownerAt i xs u tag ≡ ownerAt (i + 1) xs (u / 2) tag
-owner-miss xs i d u tag h e = owner-at xs i d u tag h ∙ ap (λ (z : Bool). cond z (some i) (ownerAt (i + 1) xs (u / 2) tag)) e
+pub owner-at : (xs : List Line) (i : ℕ) (d : Line) (u tag : ℕ) {b : Bool} → i < length xs → hasTag tag (getD xs i d) u ≡ b
+    → ownerAt i xs u tag ≡ cond b (some i) (ownerAt (i + 1) xs (u / 2) tag)
+owner-at xs i d u tag {b} h e =
+    ap (λ (l : List Line). ownerFrom i l u tag) (drop-cons xs i d h) ∙ owner-cons (getD xs i d) (drop (suc i) xs) u tag i e
+    ∙ ap (λ (j : ℕ). cond b (some i) (ownerAt j xs (u / 2) tag)) (sym (add-one i))
 
 pub owner-past : (xs : List Line) (i n u tag : ℕ) → length xs ≤ i → ownerFrom n (drop i xs) u tag ≡ none
 unfolding ownerFrom
@@ -54,11 +51,13 @@ owner-past (x ∷ xs) (suc i) n u tag h = owner-past xs i n u tag (le-of-suc-le-
 -- the first line
 first-owns : (x : Line) (xs : List Line) (u tag : ℕ) → hasTag tag x u ≡ true → Owns (x ∷ xs) u tag 0
 unfolding hasTag
-first-owns x xs u tag e = record { inside = omega arith; opened = digit-zero u ∙ eqb-true (u % 2) 1 (left (eqb (u % 2) 1) e); tagged = eqb-true _ _ (right (eqb (u % 2) 1) e) }
+first-owns x xs u tag e =
+    record { inside = omega arith; opened = digit-zero u ∙ eqb-true (u % 2) 1 (left (eqb (u % 2) 1) e); tagged = eqb-true _ _ (right (eqb (u % 2) 1) e) }
   where
     left : (b : Bool) → (b && eqb (x .tag .0) tag) ≡ true → b ≡ true
     left true h = refl
     left false h = h
+
     right : (b : Bool) → (b && eqb (x .tag .0) tag) ≡ true → eqb (x .tag .0) tag ≡ true
     right true h = h
     right false h = absurd (true≢false (sym h))
@@ -79,8 +78,8 @@ pub found-owns : (xs : List Line) (u tag n k : ℕ) → ownerFrom n xs u tag ≡
 unfolding ownerFrom
 found-owns [] u tag n k e = absurd (Option·none-ne-some k e)
 found-owns (x ∷ xs) u tag n k e = elim (true-or-false (hasTag tag x u)) [
-  | inl h ↦ (0, (let q = Option·some-injective n k (sym (ap (λ (z : Bool). cond z (some n) (ownerFrom (suc n) xs (u / 2) tag)) h) ∙ e) in omega arith), first-owns x xs u tag h)
-  | inr h ↦ (let r = found-owns xs (u / 2) tag (suc n) k (sym (ap (λ (z : Bool). cond z (some n) (ownerFrom (suc n) xs (u / 2) tag)) h) ∙ e) in
+  | inl h ↦ (let q = Option·some-injective n k (sym (owner-cons x xs u tag n h) ∙ e) in (0, omega arith, first-owns x xs u tag h))
+  | inr h ↦ (let r = found-owns xs (u / 2) tag (suc n) k (sym (owner-cons x xs u tag n h) ∙ e) in
       (suc (r .0), (let q = r .1 in omega arith), later-owns x xs u tag (r .0) (r .2)))
 ]
 
@@ -88,10 +87,10 @@ pub none-owns : (xs : List Line) (u tag n j : ℕ) → ownerFrom n xs u tag ≡ 
 unfolding ownerFrom
 none-owns [] u tag n j e o = not-suc-le-zero (o .inside)
 none-owns (x ∷ xs) u tag n zero e o =
-    Option·none-ne-some n (sym e ∙ ap (λ (z : Bool). cond z (some n) (ownerFrom (suc n) xs (u / 2) tag)) (owns-first x xs u tag o))
+    Option·none-ne-some n (sym e ∙ owner-cons x xs u tag n (owns-first x xs u tag o))
 none-owns (x ∷ xs) u tag n (suc j) e o = elim (true-or-false (hasTag tag x u)) [
-  | inl h ↦ Option·none-ne-some n (sym e ∙ ap (λ (z : Bool). cond z (some n) (ownerFrom (suc n) xs (u / 2) tag)) h)
-  | inr h ↦ none-owns xs (u / 2) tag (suc n) j (sym (ap (λ (z : Bool). cond z (some n) (ownerFrom (suc n) xs (u / 2) tag)) h) ∙ e) (owns-later x xs u tag j o)
+  | inl h ↦ Option·none-ne-some n (sym e ∙ owner-cons x xs u tag n h)
+  | inr h ↦ none-owns xs (u / 2) tag (suc n) j (sym (owner-cons x xs u tag n h) ∙ e) (owns-later x xs u tag j o)
 ]
 
 -- where one line alone owns the tag it is found; where none does, none is

@@ -5,7 +5,7 @@ use mathlib.Core.Path.{_≡_, refl, ap, _∙_, subst}
 use mathlib.Core.Bool.{Bool, true, false}
 use mathlib.Core.List.{List, [], _∷_}
 use mathlib.Core.Logic.{inl, inr}
-use Prim.Native.Nat.{ℕ, zero, suc, _+_, _%_, _≤_, _<_}
+use Prim.Native.Nat.{ℕ, zero, suc, _+_, _≤_, _<_}
 use native.Mathlib.Omega.{arith}
 use borrow.Author.Tests.{eqb-true, ne-eqb}
 use lib.Dec.{eqb}
@@ -69,8 +69,9 @@ total-ge : (m c : ℕ) (bs : List ℕ) → ((i : ℕ) → i < m → 1 ≤ times 
 unfolding total
 total-ge zero c bs all = omega arith
 total-ge (suc m) c bs all =
-    let first = subst (λ (x : ℕ). 1 ≤ times (wrapped x) bs) (let q : c + 0 ≡ c = omega arith in q) (all 0 (omega arith)) in
-    let rest = total-ge m (c + 1) bs (λ i h. subst (λ (x : ℕ). 1 ≤ times (wrapped x) bs) (let q : c + suc i ≡ (c + 1) + i = omega arith in q) (all (suc i) (omega arith))) in
+    let at : (x y : ℕ) → x ≡ y → 1 ≤ times (wrapped x) bs → 1 ≤ times (wrapped y) bs = λ x y e. subst (λ (z : ℕ). 1 ≤ times (wrapped z) bs) e in
+    let first = at (c + 0) c (omega arith) (all 0 (omega arith)) in
+    let rest = total-ge m (c + 1) bs (λ i h. at (c + suc i) ((c + 1) + i) (omega arith) (all (suc i) (omega arith))) in
     omega arith
 
 pub not-all : (m c : ℕ) (bs : List ℕ) → m ≤ 0x10000 → length bs < m → ((i : ℕ) → i < m → 1 ≤ times (wrapped (c + i)) bs) → ⊥

@@ -99,7 +99,8 @@ record Reaches (k : ℕ) (xs : List Line) (u from tag : ℕ) : Type 0 where
 
 reaches : (k : ℕ) (xs : List Line) (u from : ℕ) → from < 0x10000 → Reaches k xs u from (firstVacant k xs u from)
 unfolding firstVacant
-reaches zero xs u from h = record { steps = 0; within = omega arith; there = omega arith; passed = λ m l. absurd (not-suc-le-zero l); early = λ l. absurd (not-suc-le-zero l) }
+reaches zero xs u from h =
+    record { steps = 0; within = omega arith; there = omega arith; passed = λ m l. absurd (not-suc-le-zero l); early = λ l. absurd (not-suc-le-zero l) }
 reaches (suc k) xs u from h = elim (true-or-false (vacant xs u from)) [
   | inl e ↦ (let this = ap (λ (b : Bool). cond b from (firstVacant k xs u (wrapped (from + 1)))) e in
       record {

@@ -18,7 +18,8 @@ use Rattle.ledger.specs.declared.Ledger.{Ledger}
 use Rattle.ledger.specs.declared.Report.{Report}
 use Rattle.ledger.specs.Digits.{digit}
 use Rattle.ledger.specs.Lines.{lineMax, noLine, wrapped}
-use Rattle.ledger.specs.Calls.{newLedger, Place, openAnswer, openedResult, openLeft, verdictOf, UNEXPECTED, NOBODYS, FITS, verdictReport, answerLeft, connected}
+use Rattle.ledger.specs.Calls.{newLedger, Place, openAnswer, openedResult, openLeft}
+use Rattle.ledger.specs.Calls.{verdictOf, UNEXPECTED, NOBODYS, FITS, verdictReport, answerLeft, connected}
 
 -- ---- of every ledger
 
@@ -33,6 +34,9 @@ pub record Owns (xs : List Line) (u tag j : ℕ) : Type 0 where
   pub inside : j < length xs
   pub opened : digit u j ≡ 1
   pub tagged : getD xs j noLine .tag .0 ≡ tag
+
+abbrev pub OwnsIn : Ledger → ℕ → ℕ → Type 0
+OwnsIn l tag j = Owns (l .lines) (l .used) tag j
 
 -- the first vacant tag in cyclic order from a number on: each one before it is zero, or open
 pub record NextTag (isOpen : ℕ → Type 0) (from tag : ℕ) : Type 0 where
@@ -56,7 +60,7 @@ pub record OpenRight (count from : ℕ) (tagOpen lineOpen : ℕ → Type 0) (com
       → (p : Place) × (r ≡ took p) × NextTag tagOpen from (p .tag) × LowestLine lineOpen (p .line)
 
 abbrev pub tagOpen : Ledger → ℕ → Type 0
-tagOpen l tag = (j : ℕ) × Owns (l .lines) (l .used) tag j
+tagOpen l tag = (j : ℕ) × OwnsIn l tag j
 
 abbrev pub lineOpen : Ledger → ℕ → Type 0
 lineOpen l j = digit (l .used) j ≡ 1
@@ -67,7 +71,7 @@ OpensRight l command = OpenRight (ones (l .used)) (l .counter) (tagOpen l) (line
 
 -- "No two open lines ever have the same tag."
 abbrev pub Distinct : Ledger → Type 0
-Distinct l = (tag i j : ℕ) → Owns (l .lines) (l .used) tag i → Owns (l .lines) (l .used) tag j → i ≡ j
+Distinct l = (tag i j : ℕ) → OwnsIn l tag i → OwnsIn l tag j → i ≡ j
 
 -- ---- calls, and what comes back
 

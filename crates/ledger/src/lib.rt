@@ -6,7 +6,8 @@ ghost use lib.Count.{ones};
 ghost use lib.ListN.{getD};
 ghost use Rattle.ledger.specs.Digits.{digit, lowest};
 ghost use Rattle.ledger.specs.Lines.{lineMax, below, noLine, hasTag, owner, foundIn, wrapped, vacant, firstVacant, candidates, awaits};
-ghost use Rattle.ledger.specs.Calls.{newLedger, openedResult, openAnswer, openLeft, taken, lineOf, verdictReport, verdictAt, verdictOf, answerLeft, freed, marked, connected};
+ghost use Rattle.ledger.specs.Calls.{newLedger, openAnswer, openedResult, taken, openLeft};
+ghost use Rattle.ledger.specs.Calls.{verdictAt, verdictOf, lineOf, verdictReport, freed, marked, answerLeft, connected};
 use kind::ERR;
 use kind::OK;
 use kind::RX;
@@ -60,11 +61,7 @@ pub enum Verdict {
     // It answers no command: an RX, or an ERR with tag zero.
     Nobody,
     // It answers this command, which has this line; the line is closed by it, or waits for a TX_DONE.
-    Fits {
-        command: u8,
-        line: u8,
-        closed: bool,
-    },
+    Fits { command: u8, line: u8, closed: bool },
 }
 
 // The ledger after an answer, and what came back.
@@ -312,7 +309,11 @@ pub fn answer(l: Ledger, kind: u8, tag: DongleTag) -> Answering
 {
     let verdict = judge(l, kind, tag);
     match verdict {
-        Verdict::Fits { command: _, line, closed } => {
+        Verdict::Fits {
+            command: _,
+            line,
+            closed,
+        } => {
             if closed {
                 let ledger = free_line(l, line);
                 return Answering { ledger, verdict };

@@ -12,7 +12,8 @@ use Rattle.ffi_ledger.proofs.open.Statement.{statement}
 use Rattle.ffi_ledger.proofs.open.Tie as tie
 
 -- the result r came back, and the ledger m was left
-called : (l : Ledger) (command tag line : ℕ) {r : Result Place} {m : Ledger} → r ≡ openedResult (openAnswer l command) → m ≡ openLeft l command (openAnswer l command)
+called : (l : Ledger) (command tag line : ℕ) {r : Result Place} {m : Ledger} → r ≡ openedResult (openAnswer l command)
+    → m ≡ openLeft l command (openAnswer l command)
     → _≡_ {A = OpenCall} (record {
       ledger = m;
       tag = valueOr (r .value) (record { tag = tag; line = line }) .tag;

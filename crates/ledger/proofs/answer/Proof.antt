@@ -59,10 +59,16 @@ returns-2 c =
     (c .mark .ensures ∙ sym (ap (λ (z : Bool). cond z (freed l k) (marked l k)) (c .before .if1 .left)))
 
 returns-3 : tie.Need-returns-3
-returns-3 c = let j = c .before .before .judge .ensures .0 in let l = c .before .before .before .args .l in told l j (sym (ap (answerLeft l) (c .enum-told .given .1)))
+returns-3 c =
+    let judge = c .before .before .judge in
+    let l = c .before .before .before .args .l in
+    told l (judge .ensures .0) (sym (ap (answerLeft l) (c .enum-told .given .1)))
 
 returns-4 : tie.Need-returns-4
-returns-4 c = let j = c .before .before .judge .ensures .0 in let l = c .before .before .before .args .l in told l j (sym (ap (answerLeft l) (c .enum-told2 .given .1)))
+returns-4 c =
+    let judge = c .before .before .judge in
+    let l = c .before .before .before .args .l in
+    told l (judge .ensures .0) (sym (ap (answerLeft l) (c .enum-told2 .given .1)))
 
 pub answer-spec : {M : Type 1} → statement M
 answer-spec =

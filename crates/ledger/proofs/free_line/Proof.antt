@@ -4,7 +4,6 @@ use mathlib.Core.Path.{ap}
 use Prim.Native.Nat.{ℕ, _-_}
 use native.Mathlib.Omega.{arith}
 use borrow.Author.Needs.{needs}
-use Rattle.ledger.specs.declared.Ledger.{Ledger}
 use Rattle.ledger.proofs.Digits.{clear-le}
 use Rattle.ledger.proofs.free_line.Statement.{statement}
 use Rattle.ledger.proofs.free_line.Tie as tie

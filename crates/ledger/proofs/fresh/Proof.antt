@@ -1,7 +1,7 @@
 -- The invariant: the candidates passed have not decided it.
 -- Assumes nothing.
 use mathlib.Core.Path.{_≡_, sym, ap, _∙_}
-use Prim.Native.Nat.{ℕ, _≤_, _-_}
+use Prim.Native.Nat.{_≤_, _-_}
 use native.Mathlib.Omega.{arith}
 use borrow.Author.Needs.{needs}
 use Rattle.ledger.specs.Lines.{firstVacant, candidates}
@@ -45,7 +45,7 @@ loop-again c =
     let a = at .before .args in
     let k = at .loop .left in
     let miss = fresh-miss k (a .lines) (a .used) (at .loop .tag) (c .before .before .before .loop-test .taken)
-      (sym (c .before .before .is-vacant .ensures) ∙ c .before .if1 .left) in
+    (sym (c .before .before .is-vacant .ensures) ∙ c .before .if1 .left) in
     (omega arith, ap (firstVacant (k - 1) (a .lines) (a .used)) (c .after .ensures) ∙ sym miss ∙ at .loop .inv .1)
 
 returns-2 : tie.Need-returns-2 Inv-loop μ-loop

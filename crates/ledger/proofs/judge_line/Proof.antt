@@ -7,7 +7,6 @@ use lib.Dec.{eqb}
 use borrow.Author.Needs.{needs}
 use Rattle.kind.specs.Kinds.{TX, OK}
 use Rattle.ledger.specs.declared.Line.{Line}
-use Rattle.ledger.specs.declared.Verdict.{Verdict}
 use Rattle.ledger.specs.declared.Verdict.the-variants as J
 use Rattle.ledger.specs.Lines.{awaits}
 use Rattle.ledger.specs.Calls.{verdictAt}

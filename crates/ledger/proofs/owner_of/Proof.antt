@@ -5,7 +5,7 @@ use Prim.Native.Nat.{_≤_, _-_}
 use native.Mathlib.Omega.{arith}
 use borrow.Author.Needs.{needs}
 use Rattle.ledger.specs.Lines.{lineMax, owner}
-use Rattle.ledger.proofs.Owner.{ownerAt, owner-hit, owner-miss, owner-past}
+use Rattle.ledger.proofs.Owner.{ownerAt, owner-at, owner-past}
 use Rattle.ledger.proofs.owner_of.Statement.{statement}
 use Rattle.ledger.proofs.owner_of.Tie as tie
 
@@ -35,7 +35,7 @@ returns c =
     let at = c .before .before .before .before in
     let a = at .before .args in
     let n = at .before .good .0 .1 .0 .1 in
-    let hit = owner-hit (a .t1) (at .loop .i) _ (at .loop .u) (a .tag .0) (omega arith) (sym (c .before .has-tag .ensures) ∙ c .if1 .taken) in
+    let hit = owner-at (a .t1) (at .loop .i) _ (at .loop .u) (a .tag .0) (omega arith) (sym (c .before .has-tag .ensures) ∙ c .if1 .taken) in
     (sym hit ∙ at .loop .inv .1, c .before .before .before .loop-test .taken)
 
 add-i : tie.Need-add-i Inv-loop μ-loop
@@ -49,7 +49,7 @@ loop-again c =
     let at = c .before .before .before .before in
     let a = at .before .args in
     let n = at .before .good .0 .1 .0 .1 in
-    let e = owner-miss (a .t1) (at .loop .i) _ (at .loop .u) (a .tag .0) (omega arith) (sym (c .before .has-tag .ensures) ∙ c .if1 .left) in
+    let e = owner-at (a .t1) (at .loop .i) _ (at .loop .u) (a .tag .0) (omega arith) (sym (c .before .has-tag .ensures) ∙ c .if1 .left) in
     (omega arith, sym e ∙ at .loop .inv .1)
 
 returns-2 : tie.Need-returns-2 Inv-loop μ-loop

@@ -4,8 +4,6 @@ use Prim.Native.Nat.{_+_}
 use native.Mathlib.Omega.{arith}
 use lib.ListN.{set}
 use borrow.Author.Needs.{needs}
-use Rattle.ledger.specs.declared.Ledger.{Ledger}
-use Rattle.ledger.specs.declared.Line.{Line}
 use Rattle.ledger.proofs.Digits.{set-lt}
 use Rattle.ledger.proofs.take.Statement.{statement}
 use Rattle.ledger.proofs.take.Tie as tie
