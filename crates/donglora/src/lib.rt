@@ -1,5 +1,5 @@
 // What C programs call; include/donglora.h is its other side. Each function is one call, with the
-// contract of the function that it calls.
+// contract of the function that it calls; those of the ledger, which is lent, are in tags.rt.
 ghost use mathlib.Core.Path.{_≡_};
 ghost use lib.ListN.{length};
 ghost use Rattle.status.specs.Result.{valueOr};
@@ -7,13 +7,14 @@ ghost use Rattle.crc16.specs.Crc.{crcOf};
 ghost use Rattle.cobs.specs.Decoding.{decoded};
 ghost use Rattle.cobs.specs.Answers.{encodeAnswer, encodeLeft, encodedResult, decodeAnswer, decodeLeft, decodedResult};
 ghost use Rattle.frame.specs.Writing.{writtenResult};
-ghost use Rattle.frame.specs.Reading.{openedResult};
+ghost use Rattle.frame.specs.Reading.{openedResult, openAnswer, openLeft};
 ghost use Rattle.reader.specs.Reading.{receiveAnswer, receiveLeft};
 ghost use Rattle.writer.specs.Writing.{writeAnswer, writeLeft};
 ghost use Rattle.ffi_host.specs.Reports.{nameIn, messageReport, rxReport, txDoneReport};
 
 // Public for crate ffi_refinement, which says of each call that C can make what its types say.
 pub mod event;
+mod tags;
 
 use ffi_host::MessageReport;
 use ffi_host::RxReport;
@@ -66,6 +67,15 @@ pub extern "C" fn donglora_write_command(
         ≡ valueOr (writtenResult (writeAnswer Kinds.Commands kind tag (now (payload .entry)) (length (now (dst .entry)))) .value) (now (written .entry)) ⌝ }
 {
     ffi_host::write_command(kind, tag, payload, dst, written)
+}
+
+// Reads a frame of whatever type and tag, and puts its body at the start of body.
+#[no_mangle]
+pub extern "C" fn donglora_read_frame(run: &[u8], body: &mut [u8]) -> MessageReport
+    ensures { λ r. ⌜ r ≡ messageReport (openedResult (openAnswer (now (run .entry)) (length (now (body .entry))))) ⌝ }
+    ensures { λ r. ⌜ now (body .exit) ≡ openLeft (now (run .entry)) (now (body .entry)) ⌝ }
+{
+    ffi_host::read_frame(run, body)
 }
 
 // Reads the frame of an answer, where an OK is that to a command, and puts its body at the start of

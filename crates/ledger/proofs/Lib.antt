@@ -7,3 +7,4 @@ pub mod Openings
 mod Changes
 mod Known
 pub mod Histories
+pub mod Examples

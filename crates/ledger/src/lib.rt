@@ -163,7 +163,7 @@ fn lowest_free(used: u16) -> u8
 }
 
 // How many lines are open.
-pub fn open_lines(used: u16) -> usize
+fn open_lines(used: u16) -> usize
     ensures { λ r. ⌜ r ≡ ones used ⌝ }
 {
     u16::count_ones(used) as usize
@@ -327,12 +327,12 @@ pub fn answer(l: Ledger, kind: u8, tag: DongleTag) -> Answering
 }
 
 // A new connection: all lines are free, and the counter goes on.
-pub fn connect(l: Ledger) -> Ledger
-    ensures { λ r. ⌜ r ≡ connected l ⌝ }
+pub fn connect(was: Ledger) -> Ledger
+    ensures { λ r. ⌜ r ≡ connected was ⌝ }
 {
-    let lines = l.lines;
+    let lines = was.lines;
     Ledger {
-        counter: l.counter,
+        counter: was.counter,
         used: 0,
         lines,
     }
