@@ -6,9 +6,9 @@
  *   range PLOT.svg   also writes the pattern to that file, as a polar plot
  *
  * Both dongles are the library, called as a board's main loop calls it. The host has their bytes and
- * nothing else. Things go wrong on the way: a SET_CONFIG falls into the sweep, the radio fails, a
- * channel is busy, the mast's ring runs full, a session times out. At the end the table is compared
- * with the pattern that was put in; the last line tells the result, and so does the exit status.
+ * nothing else. Things go wrong on the way: a SET_CONFIG falls into the sweep, an answer arrives twice,
+ * the radio fails, a channel is busy, the mast's ring runs full, a session times out. At the end the table
+ * is compared with the pattern that was put in; the last line tells the result, and so does the exit status.
  *
  * Here are the sweep, what goes wrong, and the check. The rest is in the folder range:
  *   board    a dongle: the library and its main loop. Copy from here for a board of your own.
@@ -31,13 +31,20 @@
 
 /* Where what goes wrong does so, in degrees. */
 #define CONFIG_AT 20  /* a SET_CONFIG falls into the sweep, on the flank of the main lobe */
+#define TWICE_AT  65  /* the cable from the turntable doubles a TX_DONE */
 #define FAULT_AT  115 /* the radio on the turntable fails */
-#define HELD_FROM 170 /* the USB of the mast is held up from here */
+#define HELD_FROM 170 /* the USB of the mast holds bytes back from here */
 #define HELD_TO   183 /* until here */
 #define SILENT_AT 250 /* the host falls silent towards the turntable */
 #define BUSY_AT   325 /* somebody else is on the channel */
 
 #define SILENT_MS 1300 /* how long the host falls silent; 1000 end the session */
+
+/*
+ * How many bytes are held back. While any are left the mast gives out no packet, and its ring runs full. The
+ * OKs to the host's PINGs come late, but before sixteen PINGs are open.
+ */
+#define HELD_BYTES 64
 
 /* ---- The sweep: what the host does. It has nothing but the host in its hands. ---- */
 
@@ -75,7 +82,7 @@ static void fall_silent(struct host *h)
 /* Waits until all TX are reported. If no report comes, a command asks whether the session still stands. */
 static void wait_reports(struct host *h)
 {
-    for (int asked = 0; h->table.opened > 0;) {
+    for (int asked = 0; host_open(&h->table) > 0;) {
         host_rest(h, 1);
         if (h->ms - h->report_ms > ANSWER_MS) {
             if (asked++ == 2)
@@ -83,8 +90,10 @@ static void wait_reports(struct host *h)
             host_command(h, &h->table, DONGLORA_RX_STOP); /* where it stands, this changes nothing */
             h->report_ms = h->ms;
         }
-        if (!h->table.configured)
+        if (!h->table.configured) {
+            host_connect(h, &h->table);
             configure(h, &h->table);
+        }
     }
 }
 
@@ -114,6 +123,7 @@ static void sweep(struct host *h)
     struct cable *cables[] = {&h->table, &h->mast};
 
     for (int i = 0; i < 2; i++) {
+        host_begin(cables[i]);
         host_command(h, cables[i], DONGLORA_GET_INFO);
         host_wait_answers(h, cables[i]);
         configure(h, cables[i]);
@@ -137,7 +147,7 @@ static void sweep(struct host *h)
 struct range {
     struct air air;
     struct board table, mast;
-    int faulted, jammed, let_go; /* what went wrong once does not again */
+    int doubled, faulted, jammed, let_go; /* what went wrong once does not again */
 };
 
 /* What goes wrong on the range itself, by where the turntable stands. */
@@ -146,6 +156,12 @@ static void range_mishaps(struct range *r)
     struct air *air = &r->air;
     struct radio *radio = &r->table.radio;
 
+    /* The report of the third packet arrives twice. */
+    if (air->azimuth == TWICE_AT && air->here == 2 && !r->doubled && radio->doing == SENDING &&
+        air->now_us >= radio->until_us) {
+        r->doubled = 1;
+        r->table.to_host.twice = 1;
+    }
     /* The third packet fails when half of it is on air. */
     if (air->azimuth == FAULT_AT && air->here == 2 && !r->faulted && radio->doing == SENDING &&
         radio->until_us - air->now_us < radio_airtime_us(radio) / 2) {
@@ -156,7 +172,7 @@ static void range_mishaps(struct range *r)
     if (air->busy && radio->doing == LISTENING && air->now_us >= radio->until_us)
         r->jammed = 1;
     r->let_go |= air->azimuth >= HELD_TO;
-    r->mast.to_host.held = air->azimuth >= HELD_FROM && !r->let_go;
+    r->mast.to_host.held = air->azimuth >= HELD_FROM && !r->let_go ? HELD_BYTES : 0;
 }
 
 /* The host's clock: a millisecond passes. The mast comes second: it hears what the turntable has just sent. */
@@ -270,12 +286,14 @@ static void check_story(const struct host *h, const struct range *r)
     for (size_t i = 0; i < h->count; i++)
         fates[h->shots[i].fate]++;
     check(h->wrong == 0, "the dongles said nothing wrong", h->wrong);
-    check(h->table.opened + h->mast.opened == 0, "no command stays open", h->table.opened);
+    check(host_open(&h->table) + host_open(&h->mast) == 0, "no command stays open", host_open(&h->table));
+    check((h->table.ledger[0] | h->mast.ledger[0]) >> 16 == 0, "nor does the ledger have one open", 0);
     check(h->accepted == h->count, "each TX was accepted", h->accepted);
     check(h->reports[0] + h->reports[1] + h->reports[2] + fates[UNREPORTED] == h->accepted,
           "each accepted TX is reported once, or its session ended", fates[UNREPORTED]);
     check(r->table.misfits + r->mast.misfits == 0, "radios and library agree", r->table.misfits);
     check(fates[CANCELLED] > 0 && r->table.stalls > 0, "a SET_CONFIG fell in", fates[CANCELLED]);
+    check(h->unexpected == 1 && r->doubled, "one answer was unexpected: the doubled one", h->unexpected);
     check(fates[FAULTED] == 1 && fates[BUSY] == 1, "the radio failed, and the channel was busy", fates[BUSY]);
     check(h->dropped > 0, "the ring ran full", h->dropped);
     check(h->sessions == 1 && fates[UNREPORTED] > 0, "a session timed out", h->sessions);

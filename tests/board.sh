@@ -1,8 +1,9 @@
 #!/usr/bin/env bash
 # Checks the library for a microcontroller, as tools/cross builds it, on an emulated board: the C tests of
-# the header and of the dongle; the traces of tests/replay.c, which must be those of the proved program on
-# its scripts, and those of the library for this machine on random ones; and the stack that each function
-# takes. The board of the two targets for ARM has a Cortex-M4, which runs the code for a Cortex-M0 too.
+# the header, of the dongle, and, with fewer calls, of frames and of the ledger; the traces of tests/replay.c,
+# which must be those of the proved program on its scripts, and those of the library for this machine on
+# random ones; and the stack that each function takes. The board of the two targets for ARM has a Cortex-M4,
+# which runs the code for a Cortex-M0 too.
 #
 # Usage: tests/board.sh BUILT TARGET: the folder with the program replay, to which all output goes, and
 # thumbv7em, thumbv6m or riscv32. It needs QEMU, gcc and picolibc for the target.
@@ -65,10 +66,16 @@ same() {
     checks=$((checks + 1))
 }
 
-for name in header dongle replay; do build $name; done
+for name in header dongle frame ledger ledger_words replay; do build $name; done
 run header
 passed
 run dongle
+passed
+run frame 10000 # runs of bytes
+passed
+run ledger 1 # round of the tags
+passed
+run ledger_words 60000 # calls
 passed
 
 # The scripts of the proved program, in one run. What it reads from standard input is in a file.

@@ -38,6 +38,11 @@ enum function {
     READ_ANSWER,
     READ_RX,
     READ_TX_DONE,
+    READ_FRAME,
+    LEDGER_NEW,
+    LEDGER_OPEN,
+    LEDGER_ANSWER,
+    LEDGER_CONNECT,
     FUNCTIONS
 };
 
@@ -75,6 +80,11 @@ static struct {
     [READ_ANSWER] = {"donglora_read_answer", BOUND(544, 576, 512), 0, 0},
     [READ_RX] = {"donglora_read_rx", BOUND(576, 608, 512), 0, 0},
     [READ_TX_DONE] = {"donglora_read_tx_done", BOUND(544, 576, 512), 0, 0},
+    [READ_FRAME] = {"donglora_read_frame", BOUND(448, 480, 384), 0, 0},
+    [LEDGER_NEW] = {"donglora_ledger_new", BOUND(32, 64, 32), 0, 0},
+    [LEDGER_OPEN] = {"donglora_ledger_open", BOUND(192, 384, 352), 0, 0},
+    [LEDGER_ANSWER] = {"donglora_ledger_answer", BOUND(256, 416, 384), 0, 0},
+    [LEDGER_CONNECT] = {"donglora_ledger_connect", BOUND(32, 32, 32), 0, 0},
 };
 
 /* The dongle, the output that it is lent, and its last answer. */
@@ -408,7 +418,7 @@ static void check_reception(void)
 static void check_codec(uint8_t b, size_t len)
 {
     static uint8_t src[DONGLORA_BODY_MAX];
-    static struct donglora_message m;
+    static struct donglora_message m, any;
     static struct donglora_rx rx;
     static struct donglora_tx_done done;
     uint8_t number;
@@ -421,21 +431,24 @@ static void check_codec(uint8_t b, size_t len)
     MEASURE(READ_ANSWER, m = donglora_read_answer(0, frame, 282, body, sizeof body));
     MEASURE(READ_RX, rx = donglora_read_rx(frame, 282, body, sizeof body));
     MEASURE(READ_TX_DONE, done = donglora_read_tx_done(frame, 282, body, sizeof body));
-    if (m.number == DONGLORA_TAKEN || rx.number == DONGLORA_TAKEN || done.number == DONGLORA_TAKEN)
+    MEASURE(READ_FRAME, any = donglora_read_frame(frame, 282, body, sizeof body));
+    if (m.number == DONGLORA_TAKEN || rx.number == DONGLORA_TAKEN || done.number == DONGLORA_TAKEN
+        || any.number == DONGLORA_TAKEN)
         fail("donglora_read_answer", "bytes that are no message are taken");
 }
 
-/* Reads what the dongle has written last, with all three readers; answers the type that it is. */
+/* Reads what the dongle has written last, with all four readers; answers the type that it is. */
 static uint8_t read_out(uint8_t asked)
 {
-    static struct donglora_message m;
+    static struct donglora_message m, any;
     static struct donglora_rx rx;
     static struct donglora_tx_done done;
     MEASURE(READ_ANSWER, m = donglora_read_answer(asked, out, answer.written - 1, body, sizeof body));
     MEASURE(READ_RX, rx = donglora_read_rx(out, answer.written - 1, body, sizeof body));
     MEASURE(READ_TX_DONE, done = donglora_read_tx_done(out, answer.written - 1, body, sizeof body));
+    MEASURE(READ_FRAME, any = donglora_read_frame(out, answer.written - 1, body, sizeof body));
     if ((rx.number == DONGLORA_TAKEN) != (m.type == DONGLORA_RX)
-        || (done.number == DONGLORA_TAKEN) != (m.type == DONGLORA_TX_DONE))
+        || (done.number == DONGLORA_TAKEN) != (m.type == DONGLORA_TX_DONE) || any.type != m.type)
         fail("donglora_read_answer", "the readers differ");
     return m.type;
 }
@@ -468,6 +481,37 @@ static void check_answers(void)
         fail("donglora_read_answer", "an answer is of another type");
 }
 
+/* The ledger is filled, and a 17th command refused. The last is answered; then 15 open tags are passed over. */
+static void check_ledger(void)
+{
+    static const uint8_t types[] = {DONGLORA_RX, DONGLORA_OK, DONGLORA_ERR, DONGLORA_TX_DONE, DONGLORA_OK};
+    static const uint8_t verdicts[] = {DONGLORA_NOBODYS, DONGLORA_FITS, DONGLORA_UNEXPECTED, DONGLORA_FITS,
+                                       DONGLORA_UNEXPECTED};
+    static uint32_t ledger[DONGLORA_LEDGER_WORDS];
+    static struct donglora_report report;
+    static uint16_t tag;
+    static uint8_t line;
+    uint8_t number;
+    int i, wrong = 0;
+    MEASURE(LEDGER_NEW, donglora_ledger_new(ledger));
+    for (i = 0; i < 17; i++) {
+        MEASURE(LEDGER_OPEN, number = donglora_ledger_open(ledger, DONGLORA_TX, &tag, &line));
+        wrong += number != (i < 16 ? DONGLORA_TAKEN : DONGLORA_LEDGER);
+    }
+    for (i = 0; i < 5; i++) {
+        MEASURE(LEDGER_ANSWER, report = donglora_ledger_answer(ledger, types[i], 16));
+        wrong += report.verdict != verdicts[i];
+    }
+    ledger[0] -= 16; /* the next tag is looked for from 1 on */
+    MEASURE(LEDGER_OPEN, number = donglora_ledger_open(ledger, DONGLORA_TX, &tag, &line));
+    wrong += number != DONGLORA_TAKEN || tag != 16 || line != 15;
+    MEASURE(LEDGER_CONNECT, donglora_ledger_connect(ledger));
+    MEASURE(LEDGER_ANSWER, report = donglora_ledger_answer(ledger, DONGLORA_OK, 16));
+    wrong += report.verdict != DONGLORA_UNEXPECTED;
+    if (wrong > 0)
+        fail("donglora_ledger_open", "the ledger is not where it should be");
+}
+
 /* Prints the table, and answers which function takes most. */
 static int table(void)
 {
@@ -496,6 +540,7 @@ int main(void)
     check_codec(0x55, DONGLORA_BODY_MAX);
     check_codec(0, DONGLORA_BODY_MAX);
     check_answers();
+    check_ledger();
     largest = table();
     printf("stack: %d functions, %d failed; the most is %u bytes, by %s\n", FUNCTIONS, failed,
            (unsigned)functions[largest].most, functions[largest].name);

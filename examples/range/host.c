@@ -1,6 +1,7 @@
 /*
  * host.c: the host. It sends commands, reads the answers, and joins what the turntable says (TX_DONE) with
- * what the mast says (RX), shot by shot. The sweep itself is in range.c.
+ * what the mast says (RX), shot by shot. The library's ledger gives each command its tag, and tells which
+ * command an answer belongs to. The sweep itself is in range.c.
  */
 #include "host.h"
 
@@ -34,35 +35,51 @@ static void wrong(struct host *h, const struct cable *c, const char *what)
     host_story(h, "WRONG: %s dongle: %s", c->name, what);
 }
 
-/* The oldest open command without an answer, or (accepted) the oldest TX without a report; or NULL. */
-static struct line *oldest(struct cable *c, int accepted)
+/* The oldest open command that waits for an answer, or for a report; or NULL. */
+static struct line *oldest(struct cable *c, enum due due)
 {
-    for (size_t i = 0; i < c->opened; i++)
-        if (c->open[i].accepted == accepted)
-            return &c->open[i];
-    return NULL;
+    struct line *found = NULL;
+
+    for (struct line *line = c->lines; line < c->lines + DONGLORA_LEDGER_LINES; line++)
+        if (line->turn != 0 && line->due == due && (found == NULL || line->turn < found->turn))
+            found = line;
+    return found;
 }
 
-/* Closes a command: nothing more will come for it. */
-static void close_line(struct cable *c, struct line *line)
+size_t host_open(const struct cable *c)
 {
-    c->opened--;
-    memmove(line, line + 1, (size_t)(c->open + c->opened - line) * sizeof *line);
+    size_t open = 0;
+
+    for (int i = 0; i < DONGLORA_LEDGER_LINES; i++)
+        open += c->lines[i].turn != 0;
+    return open;
 }
 
-/* Sends a command with the next tag, which is not 0. One that comes round again was closed long since. */
+void host_begin(struct cable *c)
+{
+    donglora_ledger_new(c->ledger);
+}
+
+/* A command that was sent after the session's end is still answered. What was open before is not. */
+void host_connect(struct host *h, struct cable *c)
+{
+    host_wait_answers(h, c);
+    donglora_ledger_connect(c->ledger);
+    memset(c->lines, 0, sizeof c->lines);
+}
+
+/* Sends a command with the tag that the ledger gives it. The sweep keeps below the ledger's sixteen lines. */
 static void send_command(struct host *h, struct cable *c, uint8_t type, const uint8_t *payload, size_t len)
 {
-    uint8_t frame[DONGLORA_FRAME_ROOM(DONGLORA_PAYLOAD_MAX)];
-    struct line line = {c->tag == 0xFFFF ? 1 : (uint16_t)(c->tag + 1), type, 0, h->count};
+    uint8_t frame[DONGLORA_FRAME_ROOM(DONGLORA_PAYLOAD_MAX)], line;
+    uint16_t tag;
     size_t n;
 
-    if (c->opened == OPEN_MAX)
+    if (donglora_ledger_open(c->ledger, type, &tag, &line) != DONGLORA_TAKEN)
         give_up("too many commands are open");
-    if (donglora_write_command(type, line.tag, payload, len, frame, sizeof frame, &n) != DONGLORA_TAKEN)
+    if (donglora_write_command(type, tag, payload, len, frame, sizeof frame, &n) != DONGLORA_TAKEN)
         give_up("the library refuses to write this command");
-    c->open[c->opened++] = line;
-    c->tag = line.tag;
+    c->lines[line] = (struct line){++c->turns, ANSWER, h->count};
     c->spoke_ms = h->ms;
     usb_put(c->to, frame, n);
 }
@@ -99,14 +116,14 @@ static void befall(struct host *h, struct shot *shot, enum fate fate)
     h->rows[shot->azimuth].fates[fate]++;
 }
 
-/* The session has ended: no TX that is open will be reported any more (P 14.2). */
+/* The session has ended: no TX that is open will be reported any more (P 14.2). host_connect frees them. */
 static void lose_session(struct host *h, struct cable *c)
 {
     int open = 0;
 
-    for (struct line *line; (line = oldest(c, 1)) != NULL; open++) {
+    for (struct line *line; (line = oldest(c, REPORT)) != NULL; open++) {
         befall(h, &h->shots[line->shot], UNREPORTED);
-        close_line(c, line);
+        line->due = NOTHING;
     }
     c->configured = 0;
     h->sessions++;
@@ -123,67 +140,43 @@ static void read_info(const struct host *h, const struct cable *c, const uint8_t
         give_up("this dongle is not for this range");
 }
 
-/* Reads an OK. The layout of its payload depends on the command: it is read again with that named. */
-static void read_ok(struct host *h, struct cable *c, uint16_t tag)
+/* Reads the OK to a command. */
+static void read_ok(struct host *h, struct cable *c, uint8_t command, size_t shot, const uint8_t *payload)
 {
-    uint8_t body[DONGLORA_ENCODED_MAX];
-    const uint8_t *payload = body + DONGLORA_PAYLOAD;
-    struct line *line = oldest(c, 0);
-
-    if (line == NULL || line->tag != tag) {
-        wrong(h, c, "an OK that answers no command, or out of turn");
-        return;
-    }
-    if (donglora_read_answer(line->type, c->run, c->run_len, body, sizeof body).number != DONGLORA_TAKEN)
-        wrong(h, c, "an OK of the wrong form");
-    else if (line->type == DONGLORA_GET_INFO)
+    if (command == DONGLORA_GET_INFO) {
         read_info(h, c, payload);
-    else if (line->type == DONGLORA_SET_CONFIG) {
+    } else if (command == DONGLORA_SET_CONFIG) {
         c->configured = payload[0] == 0 && memcmp(payload + 2, configuration, sizeof configuration) == 0;
-        if (oldest(c, 1) != NULL)
+        if (oldest(c, REPORT) != NULL)
             wrong(h, c, "a SET_CONFIG is done, and a TX before it is not reported");
+    } else if (command == DONGLORA_TX) {
+        h->shots[shot].fate = ACCEPTED;
+        h->accepted++;
     }
-    if (line->type != DONGLORA_TX) {
-        close_line(c, line);
+}
+
+/* Reads the ERR to a command. */
+static void read_err(struct host *h, struct cable *c, uint8_t command, size_t shot, unsigned code)
+{
+    if (code != DONGLORA_ENOTCONFIGURED) {
+        wrong(h, c, "an ERR that this host gave no cause for");
         return;
     }
-    line->accepted = 1; /* it stays open until its TX_DONE */
-    h->shots[line->shot].fate = ACCEPTED;
-    h->accepted++;
+    if (command == DONGLORA_TX)
+        befall(h, &h->shots[shot], UNREPORTED);
+    if (c->configured)
+        lose_session(h, c);
 }
 
-/* Reads an ERR. With tag 0 it answers no command. */
-static void read_err(struct host *h, struct cable *c, uint16_t tag, unsigned code)
-{
-    struct line *line = oldest(c, 0);
-
-    if (tag == 0 && code == DONGLORA_ERADIO) {
-        c->fault = 1; /* the TX that was with the radio is reported next */
-    } else if (tag != 0 && code == DONGLORA_ENOTCONFIGURED && line != NULL && line->tag == tag) {
-        if (line->type == DONGLORA_TX)
-            befall(h, &h->shots[line->shot], UNREPORTED);
-        close_line(c, line);
-        if (c->configured)
-            lose_session(h, c);
-    } else {
-        wrong(h, c, "an ERR that this host gave no cause for");
-    }
-}
-
-/* Reads a TX_DONE. It has to report the oldest TX that is open: so none is reported twice or left out. */
-static void read_tx_done(struct host *h, struct cable *c)
+/* Reads the TX_DONE to a TX. */
+static void read_tx_done(struct host *h, struct cable *c, size_t shot)
 {
     static const enum fate fates[] = {TRANSMITTED, BUSY, CANCELLED};
     uint8_t body[DONGLORA_ENCODED_MAX];
     struct donglora_tx_done done = donglora_read_tx_done(c->run, c->run_len, body, sizeof body);
-    struct line *line = oldest(c, 1);
     enum fate fate = c->fault && done.result == 2 ? FAULTED : fates[done.result];
 
-    if (done.number != DONGLORA_TAKEN || line == NULL || line->tag != done.tag) {
-        wrong(h, c, "a TX_DONE that reports no open TX, or out of turn");
-        return;
-    }
-    befall(h, &h->shots[line->shot], fate);
+    befall(h, &h->shots[shot], fate);
     if (fate == FAULTED)
         host_story(h, "ERR(ERADIO): the radio failed; its TX was cancelled, measured again");
     if (fate == BUSY)
@@ -191,7 +184,56 @@ static void read_tx_done(struct host *h, struct cable *c)
     c->fault = 0;
     h->reports[done.result]++;
     h->report_ms = h->ms;
-    close_line(c, line);
+}
+
+/*
+ * Reads what fits an open command. The layout of its payload depends on the command. An OK or an ERR has to
+ * answer the oldest command that waits for one, and a TX_DONE the oldest TX: so none is left out.
+ */
+static void read_answer(struct host *h, struct cable *c, const struct donglora_report *report)
+{
+    uint8_t body[DONGLORA_ENCODED_MAX];
+    const uint8_t *payload = body + DONGLORA_PAYLOAD;
+    struct donglora_message m = donglora_read_answer(report->command, c->run, c->run_len, body, sizeof body);
+    struct line *line = &c->lines[report->line];
+
+    if (m.number != DONGLORA_TAKEN)
+        wrong(h, c, "an answer of the wrong form");
+    else if (line != oldest(c, m.type == DONGLORA_TX_DONE ? REPORT : ANSWER))
+        wrong(h, c, "an answer out of turn");
+    else if (m.type == DONGLORA_OK)
+        read_ok(h, c, report->command, line->shot, payload);
+    else if (m.type == DONGLORA_ERR)
+        read_err(h, c, report->command, line->shot, u16_at(payload));
+    else
+        read_tx_done(h, c, line->shot);
+    if (report->closed)
+        line->turn = 0;
+    else
+        line->due = REPORT; /* a TX that has its OK */
+}
+
+/* Reads an ERR that answers no command. After that of a radio's failure its TX is reported. */
+static void read_alarm(struct host *h, struct cable *c)
+{
+    uint8_t body[DONGLORA_ENCODED_MAX];
+    struct donglora_message m = donglora_read_answer(0, c->run, c->run_len, body, sizeof body);
+
+    if (m.number == DONGLORA_TAKEN && u16_at(body + DONGLORA_PAYLOAD) == DONGLORA_ERADIO)
+        c->fault = 1;
+    else
+        wrong(h, c, "an ERR that this host gave no cause for");
+}
+
+/* No open command waits for this: it comes late or twice, or is not for this host. It changes nothing. */
+static void leave_aside(struct host *h, const struct cable *c, const struct donglora_message *m)
+{
+    const char *name = m->type == DONGLORA_OK ? "an OK" : m->type == DONGLORA_ERR ? "an ERR" :
+                       m->type == DONGLORA_TX_DONE ? "a TX_DONE" : "a message";
+
+    h->unexpected++;
+    host_story(h, "%s dongle: %s with tag %u, which no open command waits for: unexpected; left aside",
+               c->name, name, m->tag);
 }
 
 /* Reads an RX. The packet tells which shot it was; what the RX says is kept there, for settle. */
@@ -216,27 +258,34 @@ static void read_rx(struct host *h, struct cable *c)
     h->dropped += rx.packets_dropped;
 }
 
-/* Reads the run, which a zero has ended. */
+/* Reads the run, which a zero has ended. The ledger tells from its type and tag which command it answers. */
 static void read_run(struct host *h, struct cable *c)
 {
     uint8_t body[DONGLORA_ENCODED_MAX];
     struct donglora_message m = {DONGLORA_LENGTH, 0, 0, 0};
+    struct donglora_report report;
 
     if (c->run_len <= sizeof c->run)
-        m = donglora_read_answer(0, c->run, c->run_len, body, sizeof body);
-    if (m.number != DONGLORA_TAKEN)
-        wrong(h, c, "a frame that is damaged, or no answer");
-    else if (m.type == DONGLORA_OK)
-        read_ok(h, c, m.tag);
-    else if (m.type == DONGLORA_ERR)
-        read_err(h, c, m.tag, u16_at(body + DONGLORA_PAYLOAD));
+        m = donglora_read_frame(c->run, c->run_len, body, sizeof body);
+    if (m.number != DONGLORA_TAKEN) {
+        wrong(h, c, "a frame that is damaged");
+        return;
+    }
+    report = donglora_ledger_answer(c->ledger, m.type, m.tag);
+    if (report.verdict == DONGLORA_FITS)
+        read_answer(h, c, &report);
+    else if (report.verdict == DONGLORA_UNEXPECTED)
+        leave_aside(h, c, &m);
     else if (m.type == DONGLORA_RX)
         read_rx(h, c);
     else
-        read_tx_done(h, c);
+        read_alarm(h, c);
 }
 
-/* Takes the bytes that have come, cuts them at their zeros, and sends a PING where it has been quiet. */
+/*
+ * Takes the bytes that have come, cuts them at their zeros, and sends a PING where it has been quiet. Where
+ * all lines are open the PING waits.
+ */
 static void attend(struct host *h, struct cable *c)
 {
     for (const uint8_t *byte; (byte = usb_next(c->from)) != NULL; usb_drop(c->from)) {
@@ -250,7 +299,8 @@ static void attend(struct host *h, struct cable *c)
             read_run(h, c);
         c->run_len = 0;
     }
-    if (h->ms >= c->silent_until_ms && h->ms - c->spoke_ms >= KEEP_MS)
+    if (h->ms >= c->silent_until_ms && h->ms - c->spoke_ms >= KEEP_MS &&
+        host_open(c) < DONGLORA_LEDGER_LINES)
         host_command(h, c, DONGLORA_PING);
 }
 
@@ -314,7 +364,7 @@ void host_rest(struct host *h, int ms)
 
 void host_wait_answers(struct host *h, struct cable *c)
 {
-    for (uint64_t start = h->ms; oldest(c, 0) != NULL; host_rest(h, 1))
+    for (uint64_t start = h->ms; oldest(c, ANSWER) != NULL; host_rest(h, 1))
         if (h->ms - start > ANSWER_MS)
             give_up("no answer");
 }

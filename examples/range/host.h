@@ -11,7 +11,6 @@
 #include "donglora.h"
 #include "usb.h"
 
-#define OPEN_MAX  64   /* commands that are open at a time */
 #define ANSWER_MS 2000 /* an answer that has not come by then is missing (P 14.2) */
 #define POWER_DBM 14   /* what the turntable sends with */
 
@@ -27,12 +26,14 @@ struct shot {
     unsigned dropped;
 };
 
-/* A command that is not closed yet. */
+/* What an open command waits for: an OK or an ERR, a TX_DONE, or nothing since its session has ended. */
+enum due { ANSWER, REPORT, NOTHING };
+
+/* What the host keeps beside an open command. */
 struct line {
-    uint16_t tag;
-    uint8_t type;
-    int accepted; /* a TX that has its OK, and waits for its TX_DONE */
-    size_t shot;  /* which shot a TX is */
+    unsigned turn; /* which command to this dongle it is, from 1 on; 0 where none is open here */
+    enum due due;
+    size_t shot; /* which shot a TX is */
 };
 
 /* The host's end of the cable to one dongle. */
@@ -41,9 +42,9 @@ struct cable {
     struct usb_pipe *to, *from;
     uint8_t run[DONGLORA_ENCODED_MAX]; /* the bytes since the last zero, as far as they fit */
     size_t run_len;
-    struct line open[OPEN_MAX]; /* oldest first */
-    size_t opened;
-    uint16_t tag; /* of the last command */
+    uint32_t ledger[DONGLORA_LEDGER_WORDS];   /* the library's: which tags are open, and of which commands */
+    struct line lines[DONGLORA_LEDGER_LINES]; /* the host's own, one for each line of the ledger */
+    unsigned turns;                           /* how many commands were sent */
     uint64_t spoke_ms, silent_until_ms;
     int configured, fault;
 };
@@ -71,10 +72,20 @@ struct host {
     unsigned accepted, reports[3]; /* TX with an OK; TX_DONE by their result */
     unsigned read, dropped;        /* RX, and the sum of their drop counts */
     unsigned sessions, wrong;      /* sessions that timed out; what the protocol does not allow */
+    unsigned unexpected;           /* answers that no open command waited for */
 };
 
 /* Tells what befell the sweep: one line of output. */
 void host_story(const struct host *h, const char *format, ...);
+
+/* Begins with a dongle: no command is open, and the first tag will be 1. */
+void host_begin(struct cable *c);
+
+/* Begins again after the end of a session. Waits for what is still answered; then no command is open. */
+void host_connect(struct host *h, struct cable *c);
+
+/* How many commands to a dongle are open. */
+size_t host_open(const struct cable *c);
 
 /* Sends a command that has no payload. */
 void host_command(struct host *h, struct cable *c, uint8_t type);

@@ -6,7 +6,7 @@
 
 #include "common.h"
 
-void usb_put(struct usb_pipe *p, const uint8_t *bytes, size_t len)
+static void add(struct usb_pipe *p, const uint8_t *bytes, size_t len)
 {
     if (len > sizeof p->bytes - p->len)
         give_up("a pipe is full");
@@ -14,9 +14,18 @@ void usb_put(struct usb_pipe *p, const uint8_t *bytes, size_t len)
         p->bytes[(p->first + p->len++) % sizeof p->bytes] = bytes[i];
 }
 
+void usb_put(struct usb_pipe *p, const uint8_t *bytes, size_t len)
+{
+    add(p, bytes, len);
+    if (p->twice && len > 0) {
+        add(p, bytes, len);
+        p->twice = 0;
+    }
+}
+
 const uint8_t *usb_next(const struct usb_pipe *p)
 {
-    return p->len == 0 || p->held ? NULL : &p->bytes[p->first];
+    return p->len <= p->held ? NULL : &p->bytes[p->first];
 }
 
 void usb_drop(struct usb_pipe *p)

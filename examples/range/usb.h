@@ -14,7 +14,8 @@
 struct usb_pipe {
     uint8_t bytes[4096];
     size_t first, len;
-    int held; /* they stay where they are for now */
+    size_t held; /* so many of them stay where they are for now */
+    int twice;   /* the bytes that are added next arrive twice */
 };
 
 /* Adds bytes at the end. */

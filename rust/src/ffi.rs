@@ -7,6 +7,7 @@
 //! the library does not look at it.
 
 use crate::dongle::{COMMANDS, CONTROL, PACKETS, RUN};
+use crate::ledger::WORDS;
 
 /// donglora_size: 64 bits on every target.
 pub(crate) type Size = u64;
@@ -41,6 +42,15 @@ pub(crate) struct TxDone {
     pub(crate) tag: u16,
     pub(crate) result: u8,
     pub(crate) airtime_us: u32,
+}
+
+/// struct donglora_report
+#[repr(C)]
+pub(crate) struct Report {
+    pub(crate) verdict: u8,
+    pub(crate) command: u8,
+    pub(crate) line: u8,
+    pub(crate) closed: u8,
 }
 
 /// struct donglora_answer
@@ -105,6 +115,12 @@ extern "C" {
         body: *mut u8,
         body_len: Size,
     ) -> TxDone;
+    fn donglora_read_frame(run: *const u8, run_len: Size, body: *mut u8, body_len: Size)
+        -> Message;
+    fn donglora_ledger_new(ledger: *mut u32);
+    fn donglora_ledger_open(ledger: *mut u32, command: u8, tag: *mut u16, line: *mut u8) -> u8;
+    fn donglora_ledger_answer(ledger: *mut u32, kind: u8, tag: u16) -> Report;
+    fn donglora_ledger_connect(ledger: *mut u32);
     fn donglora_power_up(control: *mut u64, run: *mut u8, commands: *mut u8, packets: *mut u8);
     fn donglora_byte(
         control: *mut u64,
@@ -224,6 +240,34 @@ pub(crate) fn read_rx(run: &[u8], body: &mut [u8]) -> Rx {
 pub(crate) fn read_tx_done(run: &[u8], body: &mut [u8]) -> TxDone {
     // SAFETY: as in read_answer.
     unsafe { donglora_read_tx_done(run.as_ptr(), len_of(run), body.as_mut_ptr(), len_of(body)) }
+}
+
+pub(crate) fn read_frame(run: &[u8], body: &mut [u8]) -> Message {
+    // SAFETY: as in read_answer.
+    unsafe { donglora_read_frame(run.as_ptr(), len_of(run), body.as_mut_ptr(), len_of(body)) }
+}
+
+pub(crate) fn ledger_new(ledger: &mut [u32; WORDS]) {
+    // SAFETY: the array has the header's size.
+    unsafe { donglora_ledger_new(ledger.as_mut_ptr()) }
+}
+
+/// The number, the tag and the line.
+pub(crate) fn ledger_open(ledger: &mut [u32; WORDS], command: u8) -> (u8, u16, u8) {
+    let (mut tag, mut line) = (0, 0);
+    // SAFETY: the array has the header's size. The tag and the line are on this stack.
+    let number = unsafe { donglora_ledger_open(ledger.as_mut_ptr(), command, &mut tag, &mut line) };
+    (number, tag, line)
+}
+
+pub(crate) fn ledger_answer(ledger: &mut [u32; WORDS], kind: u8, tag: u16) -> Report {
+    // SAFETY: the array has the header's size. The struct that comes back has numbers alone.
+    unsafe { donglora_ledger_answer(ledger.as_mut_ptr(), kind, tag) }
+}
+
+pub(crate) fn ledger_connect(ledger: &mut [u32; WORDS]) {
+    // SAFETY: as in ledger_new.
+    unsafe { donglora_ledger_connect(ledger.as_mut_ptr()) }
 }
 
 /// The control array of a dongle, as the events have it.

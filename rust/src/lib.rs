@@ -6,7 +6,8 @@
 //! its `unsafe` code is in one private module. Nothing here allocates, panics or keeps state of its
 //! own, and only [`std::error::Error`] is from `std`.
 //!
-//! The papers are those of the repository: P is the protocol, and 01 the scope of the product.
+//! The papers are those of the repository: P is the protocol, 01 the scope of the product, and 02 has
+//! requests that add to it.
 //!
 //! # A host
 //!
@@ -30,6 +31,26 @@
 //!             \x01\x01\x01\x02\x01\x01\x01\x05\xAA\xBB\x54\xC0";
 //! let rx = read_rx(run, &mut body)?;
 //! assert_eq!((rx.rssi, rx.packet), (-820, &[0xAA, 0xBB][..])); // -82.0 dBm
+//! # Ok(())
+//! # }
+//! ```
+//!
+//! A host that has several commands open at a time keeps a [`Ledger`]: it gives each command its tag,
+//! and tells which command an answer belongs to.
+//!
+//! ```
+//! use donglora::{read_frame, Command, Ledger, Report, ENCODED_MAX};
+//!
+//! # fn main() -> Result<(), donglora::Refusal> {
+//! let mut ledger = Ledger::new();
+//! let (tag, line) = ledger.open(Command::Ping)?; // the PING is written with this tag
+//! assert_eq!((tag, line), (1, 0));
+//!
+//! let mut body = [0; ENCODED_MAX];
+//! let frame = read_frame(b"\x03\x80\x01\x03\xF7\xC4", &mut body)?;
+//! let ping = Report::Fits { command: Command::Ping, line: 0, closed: true };
+//! assert_eq!(ledger.answer(frame.kind, frame.tag), ping);
+//! assert_eq!(ledger.answer(frame.kind, frame.tag), Report::Unexpected); // it came twice
 //! # Ok(())
 //! # }
 //! ```
@@ -108,6 +129,7 @@ mod codec;
 mod dongle;
 #[allow(unsafe_code)]
 mod ffi;
+mod ledger;
 mod message;
 mod refusal;
 #[cfg(test)]
@@ -115,8 +137,9 @@ mod tests;
 
 pub use codec::{cobs_decode, cobs_encode, crc16, encoded_room, BODY_MAX, ENCODED_MAX};
 pub use dongle::{Answer, Dongle, Order, Output, PacketStatus, OUT};
+pub use ledger::{Ledger, Report, LEDGER_LINES};
 pub use message::{
-    frame_room, read_answer, read_rx, read_tx_done, write_command, Command, Kind, Message, Origin,
-    Outcome, Rx, TxDone, PAYLOAD, PAYLOAD_MAX, RX_PACKET,
+    frame_room, read_answer, read_frame, read_rx, read_tx_done, write_command, Command, Frame,
+    Kind, Message, Origin, Outcome, Rx, TxDone, PAYLOAD, PAYLOAD_MAX, RX_PACKET,
 };
 pub use refusal::Refusal;

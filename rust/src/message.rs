@@ -38,6 +38,21 @@ pub enum Command {
     RxStop = 0x06,
 }
 
+impl Command {
+    /// The command with this type, if there is one.
+    pub(crate) fn from_number(number: u8) -> Option<Command> {
+        match number {
+            0x01 => Some(Command::Ping),
+            0x02 => Some(Command::GetInfo),
+            0x03 => Some(Command::SetConfig),
+            0x04 => Some(Command::Tx),
+            0x05 => Some(Command::RxStart),
+            0x06 => Some(Command::RxStop),
+            _ => None,
+        }
+    }
+}
+
 /// What a dongle sends, by type.
 #[derive(Clone, Copy, Debug, PartialEq, Eq, Hash)]
 #[repr(u8)]
@@ -58,6 +73,17 @@ pub struct Message<'a> {
     /// Its type.
     pub kind: Kind,
     /// Its tag: that of the command which it answers, or 0.
+    pub tag: u16,
+    /// Its payload, as a part of the lent body.
+    pub payload: &'a [u8],
+}
+
+/// What a frame says of itself.
+#[derive(Clone, Copy, Debug, PartialEq, Eq)]
+pub struct Frame<'a> {
+    /// Its type: any number, a [`Command`]'s, a [`Kind`]'s or another.
+    pub kind: u8,
+    /// Its tag.
     pub tag: u16,
     /// Its payload, as a part of the lent body.
     pub payload: &'a [u8],
@@ -227,5 +253,28 @@ pub fn read_tx_done(run: &[u8], body: &mut [u8]) -> Result<TxDone, Refusal> {
             _ => Outcome::Cancelled, // 2: the library takes no other
         },
         airtime_us: done.airtime_us,
+    })
+}
+
+/// Reads `run`, a frame without its zero, of whatever type and tag, and puts its body at the start of
+/// `body`. So a host learns the type and the tag before it knows which command an OK answers: a
+/// [`Ledger`](crate::Ledger) tells that, and then [`read_answer`] judges the payload. Here nothing is
+/// judged, neither a type, a tag nor a payload.
+///
+/// # Errors
+///
+/// The first that applies; `body` then stays as it was:
+/// * [`Refusal::Length`]: `run` is over [`ENCODED_MAX`](crate::ENCODED_MAX) bytes.
+/// * [`Refusal::Short`]: `body` is shorter than `run`, even where the body would have fitted.
+/// * [`Refusal::Stuff`]: `run` is no COBS encoding.
+/// * [`Refusal::Length`]: the body is outside 5 to 280 bytes.
+/// * [`Refusal::Check`]: the check value differs.
+pub fn read_frame<'a>(run: &[u8], body: &'a mut [u8]) -> Result<Frame<'a>, Refusal> {
+    let frame = ffi::read_frame(run, body);
+    Refusal::check(frame.number.into())?;
+    Ok(Frame {
+        kind: frame.kind,
+        tag: frame.tag,
+        payload: part(body, PAYLOAD, size(frame.payload_len)),
     })
 }

@@ -2,7 +2,8 @@
 
 use core::fmt;
 
-/// Why a call was refused. A refusal writes nothing and changes nothing. The numbers are 01's.
+/// Why a call was refused. A refusal writes nothing and changes nothing. The numbers are 01's, and that
+/// of [`Ledger`](Refusal::Ledger) is 02's.
 #[derive(Clone, Copy, Debug, PartialEq, Eq, Hash)]
 #[repr(u8)]
 pub enum Refusal {
@@ -27,11 +28,13 @@ pub enum Refusal {
     Type = 9,
     /// The payload is not of that message's layout or values.
     Form = 10,
+    /// All lines of the ledger are open.
+    Ledger = 11,
 }
 
 impl Refusal {
     /// All refusals, in the order of their numbers.
-    pub const ALL: [Refusal; 10] = [
+    pub const ALL: [Refusal; 11] = [
         Refusal::Room,
         Refusal::Stall,
         Refusal::Place,
@@ -42,9 +45,10 @@ impl Refusal {
         Refusal::Tag,
         Refusal::Type,
         Refusal::Form,
+        Refusal::Ledger,
     ];
 
-    /// 01's number, 1 to 10.
+    /// Its number, 1 to 11.
     #[must_use]
     pub const fn number(self) -> u8 {
         self as u8
@@ -57,7 +61,7 @@ impl Refusal {
         Refusal::ALL.get(index).copied()
     }
 
-    /// What the library's number means: taken, or a refusal. The library answers 0 to 10. A number
+    /// What the library's number means: taken, or a refusal. The library answers 0 to 11. A number
     /// over that would be no success either.
     pub(crate) fn check(number: u64) -> Result<(), Refusal> {
         match u8::try_from(number) {
@@ -87,6 +91,7 @@ impl fmt::Display for Refusal {
             Refusal::Tag => "the tag is zero and must not be, or the other way round",
             Refusal::Type => "the message is of another type",
             Refusal::Form => "the payload is not of the message's layout or values",
+            Refusal::Ledger => "all lines of the ledger are open",
         })
     }
 }

@@ -4,6 +4,7 @@
 mod codec;
 mod dongle;
 mod host;
+mod ledger;
 mod message;
 mod refusal;
 

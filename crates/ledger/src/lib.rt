@@ -197,8 +197,7 @@ fn take(l: Ledger, command: u8, tag: DongleTag, line: u8) -> Ledger
 
 // Opens a command: it takes the lowest free line and the next vacant tag.
 pub fn open(l: Ledger, command: u8) -> Opening
-    ensures { λ r. ⌜ openedResult (r .opened) ≡ openedResult (openAnswer l command) ⌝ }
-    ensures { λ r. ⌜ r .ledger ≡ openLeft l command (openAnswer l command) ⌝ }
+    ensures { λ r. ⌜ (openedResult (r .opened) ≡ openedResult (openAnswer l command)) × (r .ledger ≡ openLeft l command (openAnswer l command)) ⌝ }
 {
     let used = l.used;
     if open_lines(used) == LINES {
@@ -304,8 +303,7 @@ fn judge_line(lines: [Line; LINES], line: u8, kind: u8) -> Verdict
 
 // Takes an answer of the dongle: its type and its tag tell which command it belongs to.
 pub fn answer(l: Ledger, kind: u8, tag: DongleTag) -> Answering
-    ensures { λ r. ⌜ verdictReport (r .verdict) ≡ verdictReport (verdictOf l kind tag) ⌝ }
-    ensures { λ r. ⌜ r .ledger ≡ answerLeft l (verdictOf l kind tag) ⌝ }
+    ensures { λ r. ⌜ (verdictReport (r .verdict) ≡ verdictReport (verdictOf l kind tag)) × (r .ledger ≡ answerLeft l (verdictOf l kind tag)) ⌝ }
 {
     let verdict = judge(l, kind, tag);
     match verdict {

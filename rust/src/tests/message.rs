@@ -1,11 +1,11 @@
 use super::{hex, run, FSK, LORA};
 use crate::{
-    cobs_decode, crc16, frame_room, read_answer, read_rx, read_tx_done, write_command, Command,
-    Kind, Message, Origin, Outcome, Refusal, Rx, TxDone, ENCODED_MAX, PAYLOAD, PAYLOAD_MAX,
-    RX_PACKET,
+    cobs_decode, crc16, frame_room, read_answer, read_frame, read_rx, read_tx_done, write_command,
+    Command, Frame, Kind, Message, Origin, Outcome, Refusal, Rx, TxDone, ENCODED_MAX, PAYLOAD,
+    PAYLOAD_MAX, RX_PACKET,
 };
 
-const COMMANDS: [Command; 6] = [
+pub(super) const COMMANDS: [Command; 6] = [
     Command::Ping,
     Command::GetInfo,
     Command::SetConfig,
@@ -209,6 +209,45 @@ fn answers_are_refused_in_order() {
         read(Command::Ping, &run(0x81, 0, &[1]), 9),
         Err(Refusal::Form)
     );
+}
+
+/// Reads a frame, and checks that a refused one leaves the body.
+fn frame(run: &[u8], room: usize) -> Result<(u8, u16, Vec<u8>), Refusal> {
+    let mut body = vec![0xAA; room];
+    let frame = read_frame(run, &mut body);
+    let frame = frame.map(|Frame { kind, tag, payload }| (kind, tag, payload.to_vec()));
+    assert!(frame.is_ok() || body.iter().all(|&byte| byte == 0xAA));
+    frame
+}
+
+#[test]
+fn frames_of_any_type_and_tag() {
+    for kind in 0..=255 {
+        for tag in [0, 1, 0x1234, 0xFFFF] {
+            for payload in [&[][..], &[0], &[7; PAYLOAD_MAX]] {
+                let expected = (kind, tag, payload.to_vec());
+                assert_eq!(frame(&run(kind, tag, payload), 282), Ok(expected));
+            }
+        }
+    }
+    let ping = hex("03 01 01 03 9D C8");
+    assert_eq!(frame(&ping, 6), Ok((Command::Ping as u8, 1, vec![])));
+    let mut body = [0xAA; ENCODED_MAX];
+    read_frame(&ping, &mut body).unwrap();
+    assert_eq!(&body[..6], &hex("01 01 00 9D C8 AA")[..]);
+}
+
+#[test]
+fn frames_are_refused_in_order() {
+    let ok = hex("03 80 01 03 F7 C4");
+    assert_eq!(frame(&[1; 283], 0), Err(Refusal::Length));
+    assert_eq!(frame(&ok, 5), Err(Refusal::Short));
+    assert!(frame(&ok, 6).is_ok());
+    assert_eq!(frame(&[], 0), Err(Refusal::Stuff));
+    assert_eq!(frame(&ok[..5], 6), Err(Refusal::Stuff));
+    assert_eq!(frame(&[1], 6), Err(Refusal::Length));
+    assert_eq!(frame(&[1; 282], 282), Err(Refusal::Length));
+    assert_eq!(frame(&hex("03 80 01 03 F7 C5"), 6), Err(Refusal::Check));
 }
 
 /// Reads an RX, and compares it.
