@@ -158,12 +158,12 @@ uint8_t donglora_write_command(uint8_t type, uint16_t tag, const uint8_t *payloa
                                uint8_t *dst, donglora_size dst_len, donglora_size *written);
 
 /*
- * An answer, of whatever type. Where number is not DONGLORA_TAKEN the frame was refused, and all
+ * A message, of whatever type. Where number is not DONGLORA_TAKEN the frame was refused, and all
  * other fields are 0.
  */
 struct donglora_message {
     uint8_t number;
-    uint8_t type;              /* DONGLORA_OK, DONGLORA_ERR, DONGLORA_RX or DONGLORA_TX_DONE */
+    uint8_t type;              /* of an answer: DONGLORA_OK, _ERR, _RX or _TX_DONE */
     uint16_t tag;
     donglora_size payload_len; /* the payload is body[DONGLORA_PAYLOAD] and on */
 };
@@ -172,9 +172,9 @@ struct donglora_message {
  * Reads run, the frame of an answer without its zero, and puts its body, from the type to the check
  * value, at the start of body. command says how the payload of an OK is judged: with
  * DONGLORA_GET_INFO and DONGLORA_SET_CONFIG as the layout of the OK to that command, and with any
- * other number not at all. So a host may read with 0 first, look up the command by the tag, and read
- * an OK again with that. An ERR has its code at body[DONGLORA_PAYLOAD], low byte first. The values of
- * an RX and of a TX_DONE have readers of their own, below.
+ * other number not at all. Which command an OK answers is told by the ledger, below, from the type
+ * and the tag that donglora_read_frame finds. An ERR has its code at body[DONGLORA_PAYLOAD], low
+ * byte first. The values of an RX and of a TX_DONE have readers of their own, below.
  *
  * number, the first that applies:
  *   DONGLORA_LENGTH  run_len is over DONGLORA_ENCODED_MAX

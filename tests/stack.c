@@ -82,8 +82,8 @@ static struct {
     [READ_TX_DONE] = {"donglora_read_tx_done", BOUND(544, 576, 512), 0, 0},
     [READ_FRAME] = {"donglora_read_frame", BOUND(448, 480, 384), 0, 0},
     [LEDGER_NEW] = {"donglora_ledger_new", BOUND(32, 64, 32), 0, 0},
-    [LEDGER_OPEN] = {"donglora_ledger_open", BOUND(192, 384, 352), 0, 0},
-    [LEDGER_ANSWER] = {"donglora_ledger_answer", BOUND(256, 416, 384), 0, 0},
+    [LEDGER_OPEN] = {"donglora_ledger_open", BOUND(160, 192, 160), 0, 0},
+    [LEDGER_ANSWER] = {"donglora_ledger_answer", BOUND(128, 160, 128), 0, 0},
     [LEDGER_CONNECT] = {"donglora_ledger_connect", BOUND(32, 32, 32), 0, 0},
 };
 

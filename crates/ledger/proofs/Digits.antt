@@ -8,7 +8,7 @@ use Prim.Native.Nat.{ℕ, zero, suc, _+_, _-_, _*_, _/_, _%_, _^_, _≤_, _<_}
 use native.Mathlib.Nat.{pow-suc, not-suc-le-zero}
 use native.Mathlib.Omega.{arith}
 use lib.Arith.{lt-one}
-use lib.Pow.{shr-shr, pow-pos}
+use lib.Pow.{shr-shr, shr-lt, pow-mono, pow-pos}
 use lib.Count.{ones, trailingZeros, ones-step, ones-ones, ones-le, trailing-le, under}
 use lib.Dec.{ltb}
 use borrow.Author.Tests.{ltb-true, ltb-false}
@@ -35,6 +35,18 @@ digit-suc n k =
 pub not-one : (n k : ℕ) → (digit n k ≡ 1 → ⊥) → digit n k ≡ 0
 unfolding digit
 not-one n k d = elim (zero-or-one (n / 2 ^ k)) [ inl e ↦ e | inr e ↦ absurd (d e) ]
+
+-- of a number of k digits some are left only below digit k
+pub digits-left : (k n i : ℕ) → n < 2 ^ k → (n / 2 ^ i ≡ 0 → ⊥) → i < k
+digits-left k n i h d = go (ltb i k) refl
+  where
+    go : (b : Bool) → ltb i k ≡ b → i < k
+    go true e = ltb-true i k e
+    go false e =
+        let wide = pow-mono (ltb-false i k e) in
+        let same : 2 ^ (0 + i) ≡ 2 ^ i = ap (λ (x : ℕ). 2 ^ x) (let z : 0 + i ≡ i = omega arith in z) in
+        let small : n / 2 ^ i < 1 = shr-lt 0 i (omega arith) in
+        absurd (d (lt-one small))
 
 -- ---- no digit of 0 is set
 

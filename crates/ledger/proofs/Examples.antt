@@ -11,7 +11,7 @@ use Rattle.status.specs.Result.{took, refusedWith}
 use Rattle.kind.specs.Kinds.{isCommand, PING, TX, OK, ERR, RX, TX-DONE}
 use Rattle.ledger.specs.declared.Ledger.{Ledger}
 use Rattle.ledger.specs.Digits.{lowest}
-use Rattle.ledger.specs.Lines.{lineMax, noLine, hasTag, ownerFrom, vacant, firstVacant, awaits}
+use Rattle.ledger.specs.Lines.{noLine, hasTag, ownerFrom, vacant, firstVacant, awaits}
 use Rattle.ledger.specs.Calls.{newLedger, lowestFree, openAnswer, openedResult, UNEXPECTED, NOBODYS, FITS, verdictAt, verdictOf}
 use Rattle.ledger.proofs.Openings.{freshOf, answer-by}
 use Rattle.ledger.specs.History.{Call, opens, hears, connects, Reply, place, report, nothing, leaves, replies}
@@ -41,7 +41,8 @@ unfolding newLedger openAnswer lowest trailingZeros ones onesIn isCommand firstV
 answered = refl
 
 -- what is nobody's, and what has no tag or is no answer
-pub others : answers newLedger (opens PING ∷ hears RX 0 ∷ hears RX 1 ∷ hears ERR 0 ∷ hears OK 0 ∷ hears TX-DONE 0 ∷ hears TX-DONE 1 ∷ hears PING 1 ∷ hears 0x82 1 ∷ [])
+pub others : answers newLedger
+    (opens PING ∷ hears RX 0 ∷ hears RX 1 ∷ hears ERR 0 ∷ hears OK 0 ∷ hears TX-DONE 0 ∷ hears TX-DONE 1 ∷ hears PING 1 ∷ hears 0x82 1 ∷ [])
     ≡ given 1 0 ∷ nobodys ∷ nobodys ∷ nobodys ∷ unexpected ∷ unexpected ∷ unexpected ∷ unexpected ∷ unexpected ∷ []
 unfolding newLedger openAnswer lowest trailingZeros ones onesIn isCommand firstVacant vacant ownerFrom hasTag verdictOf verdictAt awaits answers
 others = refl
@@ -56,6 +57,7 @@ unfolding openAnswer lowest trailingZeros ones onesIn isCommand firstVacant vaca
 wrapping = refl
 
 -- LEDGER comes before TYPE
-pub refused : (l : Ledger) → (l .used ≡ 0xFFFF → openedResult (openAnswer l 0) ≡ refusedWith LEDGER) × (openedResult (openAnswer newLedger 0) ≡ refusedWith TYPE)
+pub refused : (l : Ledger) → (l .used ≡ 0xFFFF → openedResult (openAnswer l 0) ≡ refusedWith LEDGER)
+    × (openedResult (openAnswer newLedger 0) ≡ refusedWith TYPE)
 unfolding newLedger openAnswer ones onesIn isCommand
 refused l = (λ e. ap openedResult (sym (answer-by l 0 (freshOf l) (lowestFree l) (eq-eqb _ _ (ap ones e ∙ ones-ones 16)) refl refl refl)), refl)

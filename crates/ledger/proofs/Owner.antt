@@ -5,8 +5,8 @@ use mathlib.Core.Bool.{Bool, true, false, cond, _&&_, true≢false}
 use mathlib.Core.List.{List, [], _∷_}
 use mathlib.Core.Logic.{_⊎_, inl, inr}
 use mathlib.Core.Option.{Option, none, some, Option·some-injective, Option·none-ne-some}
-use Prim.Native.Nat.{ℕ, zero, suc, _+_, _/_, _%_, _≤_, _<_}
-use native.Mathlib.Nat.{not-suc-le-zero, le-of-suc-le-suc}
+use Prim.Native.Nat.{ℕ, zero, suc, _+_, _/_, _%_, _<_}
+use native.Mathlib.Nat.{not-suc-le-zero}
 use native.Mathlib.Numerals.{add-one}
 use native.Mathlib.Omega.{arith}
 use borrow.Author.Tests.{eqb-true, eq-eqb}
@@ -39,12 +39,11 @@ owner-at xs i d u tag {b} h e =
     ap (λ (l : List Line). ownerFrom i l u tag) (drop-cons xs i d h) ∙ owner-cons (getD xs i d) (drop (suc i) xs) u tag i e
     ∙ ap (λ (j : ℕ). cond b (some i) (ownerAt j xs (u / 2) tag)) (sym (add-one i))
 
-pub owner-past : (xs : List Line) (i n u tag : ℕ) → length xs ≤ i → ownerFrom n (drop i xs) u tag ≡ none
-unfolding ownerFrom
-owner-past [] zero n u tag h = refl
-owner-past [] (suc i) n u tag h = refl
-owner-past (x ∷ xs) zero n u tag h = absurd (not-suc-le-zero h)
-owner-past (x ∷ xs) (suc i) n u tag h = owner-past xs i n u tag (le-of-suc-le-suc h)
+-- where no digit is left, no line is open any more
+pub owner-zero : (n : ℕ) (xs : List Line) (tag : ℕ) → ownerFrom n xs 0 tag ≡ none
+unfolding ownerFrom hasTag
+owner-zero n [] tag = refl
+owner-zero n (x ∷ xs) tag = owner-zero (suc n) xs tag
 
 -- ---- what is found
 

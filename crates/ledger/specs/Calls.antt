@@ -1,7 +1,7 @@
 -- What each call of a ledger answers, and the ledger afterwards: 02 §2, for whatever numbers a ledger holds.
 -- Assumes nothing.
 use Prim.Native.Nat.{ℕ, _+_, _-_, _^_}
-use mathlib.Core.Bool.{Bool, true, false, cond, not, _&&_, _||_}
+use mathlib.Core.Bool.{cond, not, _&&_, _||_}
 use mathlib.Core.Option.{Option, none, some}
 use lib.Count.{ones}
 use lib.Dec.{eqb}
@@ -20,7 +20,7 @@ use Rattle.ledger.specs.declared.Verdict.the-variants as J
 use Rattle.ledger.specs.Digits.{lowest}
 use Rattle.ledger.specs.Lines.{lineMax, noLine, lineAt, owner, wrapped, firstVacant, candidates, awaits}
 
--- "a counter that starts at 1"
+-- no line is open, and the first tag will be 1
 unfoldable pub newLedger : Ledger
 newLedger = record { counter = 1; used = 0; lines = replicate lineMax noLine }
 
@@ -75,7 +75,7 @@ abbrev pub verdictBy : Ledger → ℕ → Option ℕ → Verdict
 verdictBy l kind none = J.Unexpected
 verdictBy l kind (some k) = verdictAt (lineAt l k) k kind
 
--- "RX and a tag-zero ERR as nobody's"; zero is no tag of a command
+-- an RX answers nobody, nor does an ERR with tag zero; and zero is no tag of a command
 unfoldable pub verdictOf : Ledger → ℕ → DongleTag → Verdict
 verdictOf l kind t =
     cond (eqb kind RX || (eqb kind ERR && eqb (t .0) 0)) J.Nobody
@@ -98,14 +98,10 @@ NOBODYS = 1
 abbrev pub FITS : ℕ
 FITS = 2
 
-abbrev yes : Bool → ℕ
-yes true = 1
-yes false = 0
-
 abbrev pub verdictReport : Verdict → Report
 verdictReport J.Unexpected = record { verdict = UNEXPECTED; command = 0; line = 0; closed = 0 }
 verdictReport J.Nobody = record { verdict = NOBODYS; command = 0; line = 0; closed = 0 }
-verdictReport (J.Fits command line closed) = record { verdict = FITS; command = command; line = line; closed = yes closed }
+verdictReport (J.Fits command line closed) = record { verdict = FITS; command = command; line = line; closed = cond closed 1 0 }
 
 -- line k is closed; or it is open still, and has its OK
 abbrev pub freed : Ledger → ℕ → Ledger
@@ -123,6 +119,6 @@ answerLeft l J.Unexpected = l
 answerLeft l J.Nobody = l
 answerLeft l (J.Fits command k closed) = cond closed (freed l k) (marked l k)
 
--- ---- "A new connection frees all lines; the counter goes on."
+-- ---- a new connection: no line is open any more, and the counter stands where it was
 abbrev pub connected : Ledger → Ledger
 connected l = record { counter = l .counter; used = 0; lines = l .lines }

@@ -69,7 +69,7 @@ lineOpen l j = digit (l .used) j ≡ 1
 abbrev pub OpensRight : Ledger → ℕ → Type 0
 OpensRight l command = OpenRight (ones (l .used)) (l .counter) (tagOpen l) (lineOpen l) command (openedResult (openAnswer l command))
 
--- "No two open lines ever have the same tag."
+-- open lines have different tags
 abbrev pub Distinct : Ledger → Type 0
 Distinct l = (tag i j : ℕ) → OwnsIn l tag i → OwnsIn l tag j → i ≡ j
 

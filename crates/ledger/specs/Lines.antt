@@ -12,7 +12,7 @@ use Rattle.ledger.specs.declared.Found.the-variants as F
 use Rattle.ledger.specs.declared.Line.{Line}
 use Rattle.ledger.specs.declared.Ledger.{Ledger}
 
--- "holds sixteen lines"
+-- how many lines a ledger has
 abbrev pub lineMax : ℕ
 lineMax = 16
 
@@ -46,8 +46,9 @@ abbrev pub foundIn : Found → Option ℕ
 foundIn F.Nothing = none
 foundIn (F.Line n) = some n
 
--- ---- the next tag: "wraps after 0xFFFF, passes over zero and over tags still open"
+-- ---- the next tag
 
+-- after 0xFFFF comes 0
 abbrev pub wrapped : ℕ → ℕ
 wrapped n = n % 0x10000
 
@@ -55,7 +56,7 @@ abbrev pub isNone : {A : Type 0} → Option A → Bool
 isNone none = true
 isNone (some a) = false
 
--- a tag that can be given
+-- a tag that can be given: not zero, and that of no open line
 unfoldable pub vacant : List Line → ℕ → ℕ → Bool
 vacant lines used tag = not (eqb tag 0) && isNone (owner lines used tag)
 
@@ -74,6 +75,6 @@ candidates = lineMax + 1
 abbrev pub accepted : Line → Bool
 accepted x = eqb (x .command) TX && eqb (x .accepted) 1
 
--- "TX_DONE alone fits it from then on, not before"; any other line waits for OK or ERR
+-- such a TX waits for its TX_DONE, and every other command for an OK or an ERR
 unfoldable pub awaits : Line → ℕ → Bool
 awaits x kind = cond (accepted x) (eqb kind TX-DONE) (eqb kind OK || eqb kind ERR)

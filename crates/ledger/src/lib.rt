@@ -99,7 +99,7 @@ fn owner_of(lines: [Line; LINES], used: u16, tag: DongleTag) -> Found
 {
     let mut u = used;
     let mut i: usize = 0;
-    while i < LINES {
+    while u != 0 {
         let x = lines[i];
         if has_tag(x, u, tag) {
             return Found::Line(i as u8);

@@ -1,4 +1,4 @@
--- The numbers that come back: 01 "Numbers that come back", row by row.
+-- The numbers that come back: 01 "Numbers that come back", row by row, and those of 02.
 -- Assumes nothing.
 use Prim.Native.Nat.{ℕ}
 

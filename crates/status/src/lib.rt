@@ -1,5 +1,5 @@
-// The numbers that come back, for code: 01 "Numbers that come back". specs/Numbers.antt has the
-// same table, and says exactly when each applies.
+// The numbers that come back, for code: 01 "Numbers that come back", and those of 02. specs/Numbers.antt
+// has the same table, and says exactly when each applies.
 ghost use mathlib.Core.Path.{_≡_};
 ghost use Rattle.status.specs.Refusals.{refusalNumber};
 
