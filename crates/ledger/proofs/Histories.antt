@@ -80,7 +80,7 @@ module _ (l : Ledger) (k : Observer) (w : Knows l k) where
 
   open-foreseen : (command : ℕ) → OpenRight (k .count) (k .next) (tagKnown k) (lineKnown k) command (openedResult (openAnswer l command))
   open-foreseen command =
-      let r = opens-right l command (w .fits) in
+      let r = opens-right l command (w .fits) .right in
       record {
         full = λ e. r .full (sym (w .count) ∙ e);
         type = λ room e. r .type (λ n. room (w .count ∙ n)) e;

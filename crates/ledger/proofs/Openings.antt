@@ -2,18 +2,21 @@
 -- Assumes nothing.
 use mathlib.Core.Path.{_≡_, refl, sym, ap}
 use mathlib.Core.Bool.{Bool, cond}
-use Prim.Native.Nat.{ℕ, _<_}
+use Prim.Native.Nat.{ℕ, _+_, _<_}
 use native.Mathlib.Omega.{arith}
 use lib.Count.{ones}
 use lib.Dec.{eqb}
 use borrow.Author.Tests.{eq-eqb, ne-eqb}
+use Rattle.status.specs.Numbers.{TAKEN, TYPE, LEDGER}
+use Rattle.status.specs.Result.{Result, took, valueOr}
 use Rattle.kind.specs.Kinds.{isCommand}
 use Rattle.ledger.specs.declared.DongleTag.{DongleTag}
 use Rattle.ledger.specs.declared.Ledger.{Ledger}
+use Rattle.ledger.specs.declared.Opened.{Opened}
 use Rattle.ledger.specs.declared.Opened.the-variants as O
-use Rattle.ledger.specs.Lines.{lineMax}
-use Rattle.ledger.specs.Calls.{freshTag, lowestFree, openAnswer, openedResult}
-use Rattle.ledger.specs.History.{Fits, LowestLine, OpensRight, lineOpen}
+use Rattle.ledger.specs.Lines.{lineMax, wrapped}
+use Rattle.ledger.specs.Calls.{freshTag, lowestFree, Place, openAnswer, openedResult, openLeft}
+use Rattle.ledger.specs.History.{Fits, LowestLine, OpenRight, OpensRight, tagOpen, lineOpen}
 use Rattle.ledger.proofs.Digits.{not-full, lowest-lt, lowest-is-clear, below-lowest}
 use Rattle.ledger.proofs.Vacancy.{first-vacant}
 
@@ -36,8 +39,9 @@ lowest-line l f room =
       lower = λ j h. below-lowest 16 (l .used) j (f .used) h;
     }
 
-pub opens-right : (l : Ledger) (command : ℕ) → Fits l → OpensRight l command
-opens-right l command f =
+open-right : (l : Ledger) (command : ℕ) → Fits l
+    → OpenRight (ones (l .used)) (l .counter) (tagOpen l) (lineOpen l) command (openedResult (openAnswer l command))
+open-right l command f =
     record {
       full = λ e. ap openedResult (sym (answer-by l command (freshOf l) (lowestFree l) (eq-eqb _ _ e) refl refl refl));
       type = λ room e. ap openedResult (sym (answer-by l command (freshOf l) (lowestFree l) (ne-eqb _ _ room) e refl refl));
@@ -48,3 +52,12 @@ opens-right l command f =
         lowest-line l f room,
       );
     }
+
+-- a tag comes back only with a line that was taken
+stands-after : (l : Ledger) (command : ℕ) (a : Opened) (p : Place) → openedResult a ≡ took p → openLeft l command a .counter ≡ wrapped (p .tag + 1)
+stands-after l command O.Full p e = absurd (let n : LEDGER ≡ TAKEN = ap (λ (r : Result Place). r .number) e in omega arith)
+stands-after l command O.Type p e = absurd (let n : TYPE ≡ TAKEN = ap (λ (r : Result Place). r .number) e in omega arith)
+stands-after l command (O.Line t k) p e = ap (λ (r : Result Place). wrapped (valueOr (r .value) p .tag + 1)) e
+
+pub opens-right : (l : Ledger) (command : ℕ) → Fits l → OpensRight l command
+opens-right l command f = record { right = open-right l command f; stands = stands-after l command (openAnswer l command) }

@@ -65,9 +65,10 @@ tagOpen l tag = (j : ℕ) × OwnsIn l tag j
 abbrev pub lineOpen : Ledger → ℕ → Type 0
 lineOpen l j = digit (l .used) j ≡ 1
 
--- the law of every ledger
-abbrev pub OpensRight : Ledger → ℕ → Type 0
-OpensRight l command = OpenRight (ones (l .used)) (l .counter) (tagOpen l) (lineOpen l) command (openedResult (openAnswer l command))
+-- the law of every ledger; and where a tag was given, the counter then stands after it
+pub record OpensRight (l : Ledger) (command : ℕ) : Type 0 where
+  pub right : OpenRight (ones (l .used)) (l .counter) (tagOpen l) (lineOpen l) command (openedResult (openAnswer l command))
+  pub stands : (p : Place) → openedResult (openAnswer l command) ≡ took p → openLeft l command (openAnswer l command) .counter ≡ wrapped (p .tag + 1)
 
 -- open lines have different tags
 abbrev pub Distinct : Ledger → Type 0
