@@ -184,7 +184,7 @@ abbrev pub reportDue : ℕ → ℕ → Observer → Report
 reportDue kind tag k =
     cond (eqb kind RX || (eqb kind ERR && eqb tag 0)) (record { verdict = NOBODYS; command = 0; line = 0; closed = 0 }) (expected kind (k .owner tag))
 
--- some tag has this command; some tag has a command in this line
+-- an open command has this tag; an open command has this line
 abbrev pub tagKnown : Observer → ℕ → Type 0
 tagKnown k tag = (c : OpenCommand) × (k .owner tag ≡ some c)
 
