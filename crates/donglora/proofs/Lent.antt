@@ -219,7 +219,8 @@ abbrev loan : Lft → (D : Data) → RefT (D .row .Denot) → Fml
 loan κ D x = MutRef erased κ (D .row) .own x (ptr-vals x)
 
 -- what stands for the reference x while it is open: where it points lies h
-abbrev opened : {M : Type 1} {𝓤 : URA M} → Lft → Share → (D : Data) → RefT (D .row .Denot) → D .row .Denot → Gv → Gv → List (Item 𝓤) → List (Item 𝓤)
+abbrev opened : {M : Type 1} {𝓤 : URA M} → Lft → Share → (D : Data) → RefT (D .row .Denot) → D .row .Denot → Gv → Gv
+    → List (Item 𝓤) → List (Item 𝓤)
 opened κ q D x h u w Γ = ‵ (cellAt fullShare (D .row .mir) (D .val h ∷ []) (x .ptr .0) (x .ptr .1))
     ∷ ‵ (fobor κ q (Body (mem (D .row)) (x .ptr .0) (x .ptr .1) (x .name))) ∷ ‵ (fobs (x .name) u) ∷ ‵ (fauth (x .name) w) ∷ Γ
 
@@ -275,7 +276,8 @@ module _ {M : Type 1} {𝓤 : URA M} {H : Heap 𝓤} {A : Atoms 𝓤} {K : Type 
       lands-in t n e wt = land t (from t (stop t)) (init t n e wt)
 
       -- an operand is stored in a fresh local, and behind a local that is a reference
-      pub sets : K → {x : Operand} → Opd K W Γ E x v → (n : ℕ) → nth 𝓤 H A n Γ ≡ roomOf 𝓤 H E i → T (hasTy (spotOf 𝓤 H E i .0) v) × WT v
+      pub sets : K → {x : Operand} → Opd K W Γ E x v → (n : ℕ) → nth 𝓤 H A n Γ ≡ roomOf 𝓤 H E i
+          → T (hasTy (spotOf 𝓤 H E i .0) v) × WT v
           → Step K W (put 𝓤 H A n (cellOf 𝓤 H E i fullShare v) Γ) (runs C Λ E rest q) Γ (runs C Λ E (seq (assign (place i []) (rvOpd x)) rest) q)
       sets t a n e wt = assigns t (of-opd t a) (from t (stop t)) (init t n e wt)
 
@@ -389,7 +391,8 @@ pub record Thin : Type 3 where
   pub n : ℕ
   pub params : List (Param n)
   pub out : Data
-  pub clauses : (M : Type 1) (𝓤 : URA M) (H : Heap 𝓤) → Atoms 𝓤 → (Memory → SProp 𝓤) → (Routine → Fun 𝓤) → Clauses 𝓤 (endedOf params out)
+  pub clauses : (M : Type 1) (𝓤 : URA M) (H : Heap 𝓤) → Atoms 𝓤 → (Memory → SProp 𝓤) → (Routine → Fun 𝓤)
+      → Clauses 𝓤 (endedOf params out)
   pub code : Fn
   pub callee : ByValue
   pub key : Name
@@ -437,14 +440,17 @@ module _ (F : Thin) where
 
   -- and what the walk gives: the function meets its contract. γ says what the MIR's calls mean, k is the function's own key, and r
   -- the callee's routine
-  module _ {M : Type 1} (𝓤 : URA M) (H : Heap 𝓤) (𝓜 : Model 𝓤 H) (𝓖 : GhostRules 𝓤 H) (𝓡 : Running 𝓤 H 𝓜) (γ : Bindings) (k : Name) (r : Routine) where
+  module _ {M : Type 1} (𝓤 : URA M) (H : Heap 𝓤) (𝓜 : Model 𝓤 H) (𝓖 : GhostRules 𝓤 H) (𝓡 : Running 𝓤 H 𝓜)
+      (γ : Bindings) (k : Name) (r : Routine) where
     pub thin : γ (F .key) ≡ r → Triple 𝓤 (𝓡 .run r) (promised (F .callee) 𝓤 H (𝓖 .A))
         → Closed 𝓤 H (tables 𝓤 H 𝓜 𝓡 γ .C) (tables 𝓤 H 𝓜 𝓡 γ .Λ) k (F .code) → Walk
-        → Meets 𝓤 H (𝓖 .A) (ended .signature) (𝓡 .run (γ k)) (closing 𝓤 H (𝓖 .A) ended (F .clauses M 𝓤 H (𝓖 .A) (𝓜 .mem) (𝓡 .run)))
+        → Meets 𝓤 H (𝓖 .A) (ended .signature) (𝓡 .run (γ k))
+        (closing 𝓤 H (𝓖 .A) ended (F .clauses M 𝓤 H (𝓖 .A) (𝓜 .mem) (𝓡 .run)))
     unfolding tablesOf
     thin calls met closed walk =
         entered 𝓤 H (tripleOf 𝓤 H (𝓖 .A) (ended .signature) (closing 𝓤 H (𝓖 .A) ended e)) C Λ k (F .code) closed
-        (walk-meets 𝓤 H (𝓖 .A) ended (stays ps) W (all-go 𝓤 H (𝓖 .A) W ps) e (WpFn 𝓤 H C Λ (F .code)) (WpFn-mono 𝓤 H (W .laws) 𝓣 (F .code))
+        (walk-meets 𝓤 H (𝓖 .A) ended (stays ps) W (all-go 𝓤 H (𝓖 .A) W ps) e (WpFn 𝓤 H C Λ (F .code))
+        (WpFn-mono 𝓤 H (W .laws) 𝓣 (F .code))
         (walked 𝓤 H (𝓖 .A) ended (stays ps) e (WpFn 𝓤 H C Λ (F .code)) (λ κs. spells κs ps) (λ κs. all-told κs ps)
         (λ κs qs bounds a y are. via 𝓤 _ (fst∗ 𝓤 _ (e κs a .requires y))
         (via 𝓤 _ (apart 𝓤 H (𝓖 .A) (tokens 𝓤 H (𝓖 .A) (F .n) κs qs) (brought 𝓤 H (𝓖 .A) κs ps a)

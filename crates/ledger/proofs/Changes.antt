@@ -26,7 +26,8 @@ abbrev pub ownerIn : Ledger → ℕ → Option ℕ
 ownerIn l tag = owner (l .lines) (l .used) tag
 
 -- it is the same, where the same lines own the tag
-pub same-owner : (l m : Ledger) (tag : ℕ) → Distinct m → ((j : ℕ) → OwnsIn l tag j → OwnsIn m tag j) → ((j : ℕ) → OwnsIn m tag j → OwnsIn l tag j)
+pub same-owner : (l m : Ledger) (tag : ℕ) → Distinct m → ((j : ℕ) → OwnsIn l tag j → OwnsIn m tag j)
+    → ((j : ℕ) → OwnsIn m tag j → OwnsIn l tag j)
     → ownerIn l tag ≡ ownerIn m tag
 same-owner l m tag one there back = go (ownerIn l tag) refl
   where
@@ -111,8 +112,10 @@ module _ (l : Ledger) (k : ℕ) (inside : k < length (l .lines)) where
 
   pub marked-keep : (tag j : ℕ) → OwnsIn l tag j → OwnsIn (marked l k) tag j
   marked-keep tag j o =
-      record { inside = subst (λ (n : ℕ). j < n) (sym (length-set (l .lines) k withMark)) (o .inside); opened = o .opened; tagged = tag-same j ∙ o .tagged }
+      let inside = subst (λ (n : ℕ). j < n) (sym (length-set (l .lines) k withMark)) (o .inside) in
+      record { inside = inside; opened = o .opened; tagged = tag-same j ∙ o .tagged }
 
   pub marked-back : (tag j : ℕ) → OwnsIn (marked l k) tag j → OwnsIn l tag j
   marked-back tag j o =
-      record { inside = subst (λ (n : ℕ). j < n) (length-set (l .lines) k withMark) (o .inside); opened = o .opened; tagged = sym (tag-same j) ∙ o .tagged }
+      let inside = subst (λ (n : ℕ). j < n) (length-set (l .lines) k withMark) (o .inside) in
+      record { inside = inside; opened = o .opened; tagged = sym (tag-same j) ∙ o .tagged }

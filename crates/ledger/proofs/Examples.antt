@@ -35,8 +35,10 @@ nobodys = report record { verdict = NOBODYS; command = 0; line = 0; closed = 0 }
 
 -- a PING and a TX: the TX waits for its OK, and then for its TX_DONE. The line of the PING is taken again, its tag is not. An ERR closes a TX without its OK.
 pub answered : answers newLedger
-    (opens PING ∷ opens TX ∷ hears TX-DONE 2 ∷ hears OK 2 ∷ hears OK 2 ∷ hears ERR 2 ∷ hears OK 1 ∷ hears OK 1 ∷ opens TX ∷ hears ERR 3 ∷ hears TX-DONE 2 ∷ [])
-    ≡ given 1 0 ∷ given 2 1 ∷ unexpected ∷ fits TX 1 0 ∷ unexpected ∷ unexpected ∷ fits PING 0 1 ∷ unexpected ∷ given 3 0 ∷ fits TX 0 1 ∷ fits TX 1 1 ∷ []
+    (opens PING ∷ opens TX ∷ hears TX-DONE 2 ∷ hears OK 2 ∷ hears OK 2 ∷ hears ERR 2
+    ∷ hears OK 1 ∷ hears OK 1 ∷ opens TX ∷ hears ERR 3 ∷ hears TX-DONE 2 ∷ [])
+    ≡ given 1 0 ∷ given 2 1 ∷ unexpected ∷ fits TX 1 0 ∷ unexpected ∷ unexpected
+    ∷ fits PING 0 1 ∷ unexpected ∷ given 3 0 ∷ fits TX 0 1 ∷ fits TX 1 1 ∷ []
 unfolding newLedger openAnswer lowest trailingZeros ones onesIn isCommand firstVacant vacant ownerFrom hasTag verdictOf verdictAt awaits answers
 answered = refl
 

@@ -142,7 +142,8 @@ knows-taken l k command w room =
     ]
 
 -- whatever a command is answered
-pub knows-opens : (l : Ledger) (k : Observer) (command : ℕ) → Knows l k → Knows (leaves l (opens command)) (sees (opens command) (replies l (opens command)) k)
+pub knows-opens : (l : Ledger) (k : Observer) (command : ℕ) → Knows l k
+    → Knows (leaves l (opens command)) (sees (opens command) (replies l (opens command)) k)
 knows-opens l k command w = elim (true-or-false (eqb (ones (l .used)) lineMax)) [
   | inl b ↦ subst after-answer (answer-by l command (freshOf l) (lowestFree l) b refl refl refl) w
   | inr b ↦ (elim (true-or-false (isCommand command)) [
@@ -166,7 +167,8 @@ effect-verdict : (x : Line) (j kind : ℕ) (c : OpenCommand) → c ≡ record { 
     → verdictAt x j kind ≡ verdictFrom c (effect c kind)
 unfolding verdictAt awaits
 effect-verdict x j kind c e =
-    cases (eqb (x .command) TX) (eqb (x .accepted) 1) (eqb kind OK) (eqb kind ERR) (eqb kind TX-DONE) (λ q. ap (λ (n : ℕ). eqb n OK) (eqb-true kind TX-DONE q))
+    cases (eqb (x .command) TX) (eqb (x .accepted) 1) (eqb kind OK) (eqb kind ERR) (eqb kind TX-DONE)
+    (λ q. ap (λ (n : ℕ). eqb n OK) (eqb-true kind TX-DONE q))
     ∙ ap (λ (d : OpenCommand). verdictFrom d (effect d kind)) (sym e)
   where
     d : OpenCommand
@@ -223,7 +225,8 @@ nobodys-heard : (l : Ledger) (k : Observer) (kind tag : ℕ) → Knows l k → (
     → heardBy kind tag (k .owner tag) k ≡ k
 nobodys-heard l k kind tag w e = elim (true-or-false (eqb kind RX)) [
   | inl b ↦ ap (λ (n : ℕ). heardBy n tag (k .owner tag) k) (eqb-true kind RX b) ∙ rx-heard tag k (k .owner tag)
-  | inr b ↦ ap (λ (r : Option OpenCommand). heardBy kind tag r k) (ap (k .owner) (zero (eqb kind RX) (eqb kind ERR) (eqb tag 0) refl b e) ∙ zero-owner l k w)
+  | inr b ↦ (let z = zero (eqb kind RX) (eqb kind ERR) (eqb tag 0) refl b e in
+      ap (λ (r : Option OpenCommand). heardBy kind tag r k) (ap (k .owner) z ∙ zero-owner l k w))
 ]
   where
     zero : (rx err z : Bool) → eqb tag 0 ≡ z → rx ≡ false → (rx || (err && z)) ≡ true → tag ≡ 0

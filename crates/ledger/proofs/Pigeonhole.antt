@@ -38,7 +38,8 @@ unfolding among
 none-again zero d c b e p h = refl
 none-again (suc m) d c b e p h =
     let differs = ap one (ne-eqb (wrapped (c + d)) b (λ (q : wrapped (c + d) ≡ b). omega arith)) in
-    let rest = ap (λ (x : ℕ). among m x b) (let q : (c + d) + 1 ≡ c + (d + 1) = omega arith in q) ∙ none-again m (d + 1) c b e (omega arith) (omega arith) in
+    let same : (c + d) + 1 ≡ c + (d + 1) = omega arith in
+    let rest = ap (λ (x : ℕ). among m x b) same ∙ none-again m (d + 1) c b e (omega arith) (omega arith) in
     omega arith
 
 at-most-one : (m c b : ℕ) → m ≤ 0x10000 → among m c b ≤ 1
@@ -69,7 +70,8 @@ total-ge : (m c : ℕ) (bs : List ℕ) → ((i : ℕ) → i < m → 1 ≤ times 
 unfolding total
 total-ge zero c bs all = omega arith
 total-ge (suc m) c bs all =
-    let at : (x y : ℕ) → x ≡ y → 1 ≤ times (wrapped x) bs → 1 ≤ times (wrapped y) bs = λ x y e. subst (λ (z : ℕ). 1 ≤ times (wrapped z) bs) e in
+    let at : (x y : ℕ) → x ≡ y → 1 ≤ times (wrapped x) bs → 1 ≤ times (wrapped y) bs =
+    λ x y e. subst (λ (z : ℕ). 1 ≤ times (wrapped z) bs) e in
     let first = at (c + 0) c (omega arith) (all 0 (omega arith)) in
     let rest = total-ge m (c + 1) bs (λ i h. at (c + suc i) ((c + 1) + i) (omega arith) (all (suc i) (omega arith))) in
     omega arith

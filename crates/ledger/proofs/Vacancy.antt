@@ -21,7 +21,8 @@ use Rattle.ledger.proofs.Pigeonhole.{one, times, not-all}
 -- ---- one candidate after another
 
 -- a tag is vacant by whether it is zero, and by its owner
-pub vacant-by : (xs : List Line) (u tag : ℕ) {b : Bool} {o : Option ℕ} → eqb tag 0 ≡ b → owner xs u tag ≡ o → not b && isNone o ≡ vacant xs u tag
+pub vacant-by : (xs : List Line) (u tag : ℕ) {b : Bool} {o : Option ℕ} → eqb tag 0 ≡ b → owner xs u tag ≡ o
+    → not b && isNone o ≡ vacant xs u tag
 unfolding vacant
 vacant-by xs u tag z e = ap₂ (λ (b : Bool) (o : Option ℕ). not b && isNone o) (sym z) (sym e)
 
@@ -30,7 +31,8 @@ unfolding firstVacant
 fresh-hit zero xs u tag e = refl
 fresh-hit (suc k) xs u tag e = ap (λ (z : Bool). cond z tag (firstVacant k xs u (wrapped (tag + 1)))) e
 
-pub fresh-miss : (k : ℕ) (xs : List Line) (u tag : ℕ) → 0 < k → vacant xs u tag ≡ false → firstVacant k xs u tag ≡ firstVacant (k - 1) xs u (wrapped (tag + 1))
+pub fresh-miss : (k : ℕ) (xs : List Line) (u tag : ℕ) → 0 < k → vacant xs u tag ≡ false
+    → firstVacant k xs u tag ≡ firstVacant (k - 1) xs u (wrapped (tag + 1))
 unfolding firstVacant
 fresh-miss zero xs u tag h e = absurd (not-suc-le-zero h)
 fresh-miss (suc k) xs u tag h e =
@@ -144,7 +146,8 @@ module _ (xs : List Line) (u from : ℕ) where
     | inr b ↦ ltb-false (r .steps) candidates b
   ]
 
-  stuck : (r : Reaches candidates xs u from result) → vacant xs u result ≡ false → (i : ℕ) → i < suc candidates → vacant xs u (wrapped (from + i)) ≡ false
+  stuck : (r : Reaches candidates xs u from result) → vacant xs u result ≡ false
+      → (i : ℕ) → i < suc candidates → vacant xs u (wrapped (from + i)) ≡ false
   stuck r e i l = elim (true-or-false (ltb i (r .steps))) [
     | inl b ↦ r .passed i (ltb-true i (r .steps) b)
     | inr b ↦ (let all = late r e in
