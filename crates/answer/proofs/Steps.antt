@@ -58,15 +58,3 @@ configured-there p e = (long, rest (config_form (drop 2 p)) refl)
         let h = leb-true (2 + k) (length p) (tested (F.Size (2 + k)) (rw q at e)) in
         rw (q, length-drop 2 p) (le-leb k (length p - 2) (omega arith))
     rest F.Wrong q = absurd (true≢false (sym (tested F.Wrong (rw q at e))))
-
--- the OK to every command but GET_INFO and SET_CONFIG is empty
-abbrev without-payload : List ℕ
-without-payload = 0 ∷ 3 ∷ 4 ∷ 5 ∷ []
-
-pub empty-ok : (n : Name) (p : List ℕ) → OneOf without-payload (tag_of the_type n) → (F.Size 0 ≡ ok_form n p) × (A.Ok ≡ ok_of n p)
-empty-ok N.Ping p k = (refl, refl)
-empty-ok N.GetInfo p k = absurd (miss without-payload 1 tt k)
-empty-ok N.SetConfig p k = absurd (miss without-payload 2 tt k)
-empty-ok N.Tx p k = (refl, refl)
-empty-ok N.RxStart p k = (refl, refl)
-empty-ok N.RxStop p k = (refl, refl)

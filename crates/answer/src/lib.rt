@@ -1,4 +1,6 @@
 // The four answers, and their payloads read: P 6.7 to 6.10, with the OK's payloads of P 6.2 and 6.3.
+#![tactic(auto)]
+
 ghost use Rattle.std.specs.Prelude.{◌≡◌, true, length};
 ghost use Rattle.form.specs.Forms.{at_least};
 ghost use Rattle.answer.specs.Answers.{answered_result, answer_form, answer_of, answer_kind, answer_name, configured_form, ok_form, ok_of, read_answer};
@@ -23,7 +25,7 @@ pub const TX_DONE_SIZE: usize = 5;
 const TX_DONE_MAX: u8 = 2;
 
 // What SET_CONFIG led to: P 6.3. An FSK configuration's sync word stays in the caller's bytes.
-#[derive(Drop)]
+#[derive(Clone, Copy)]
 pub struct Configured {
     pub result: u8,
     pub owner: u8,
@@ -32,7 +34,7 @@ pub struct Configured {
 
 // An answer. The bytes of variable length stay beside it, in the caller's memory: an RX's packet,
 // an FSK configuration's sync word, the uids.
-#[derive(Drop)]
+#[derive(Clone, Copy)]
 pub enum Answer {
     // OK to PING, TX, RX_START or RX_STOP.
     Ok,
@@ -46,7 +48,7 @@ pub enum Answer {
 }
 
 // What reading a payload answers.
-#[derive(Drop)]
+#[derive(Clone, Copy)]
 pub enum Answered {
     Answer(Answer),
     Refused(Refusal),

@@ -1,5 +1,7 @@
 // COBS ("stuffing" in 01): bytes written without a zero, so that a zero can end a frame.
 // P appendix A, with the choices of 01 "Bytes on the wire".
+#![tactic(auto)]
+
 ghost use Rattle.std.specs.Prelude.{◌≡◌, false, ◌+◌, ◌≤◌, length};
 ghost use Rattle.buffer.specs.Lay.{lay};
 ghost use Rattle.cobs.specs.Encoding.{group, encoded, worst};
@@ -14,7 +16,7 @@ pub const ENCODED_MAX: usize = 282;
 pub const FULL: usize = 254;
 
 // What encoding answers.
-#[derive(Drop)]
+#[derive(Clone, Copy)]
 pub enum Encoded {
     // So many bytes were written.
     Done(usize),
@@ -25,7 +27,7 @@ pub enum Encoded {
 }
 
 // What decoding answers.
-#[derive(Drop)]
+#[derive(Clone, Copy)]
 pub enum Decoded {
     // So many bytes were written.
     Done(usize),

@@ -20,6 +20,7 @@ use Rattle.form.specs.Forms.{exactly}
 use Rattle.form.proofs.Laws.{refuted, passed}
 use Rattle.form.specs.declared.Form.TheVariants as F
 use Rattle.kind.specs.Kinds.{SET_CONFIG, TX, is_command}
+use Rattle.modulation.specs.declared.Modulation.{Modulation}
 use Rattle.modulation.specs.Modulations.{config_form, config_bytes}
 use Rattle.modulation.proofs.Laws.{config-back, config-small, fixed-most, length-config, word_back}
 use Rattle.command.specs.Commands.{asked_result, tx_form, tx_bytes, command_form, command_of, read_command, command_kind, command_bytes, command_tail}
@@ -51,17 +52,14 @@ unfolding tx_bytes lay le
 tx-bytes f packet h = rw (mod-eq_of_lt h)
 
 -- a command but SET_CONFIG and TX has the bytes alone
-abbrev without-bytes : List ℕ
-without-bytes = 0 ∷ 1 ∷ 4 ∷ 5 ∷ []
-
-pub bytes-alone : (c : Command) (bs : List ℕ) → OneOf without-bytes (tag_of the_type c) → command_bytes c bs ≡ bs
+pub bytes-alone : (c : Command) (bs : List ℕ) → ((m : Modulation) → c ≡ C.SetConfig m → ⊥) → ((f : ℕ) → c ≡ C.Tx f → ⊥) → command_bytes c bs ≡ bs
 unfolding command_bytes
-bytes-alone C.Ping bs k = refl
-bytes-alone C.GetInfo bs k = refl
-bytes-alone (C.SetConfig m) bs k = absurd (miss without-bytes 2 tt k)
-bytes-alone (C.Tx f) bs k = absurd (miss without-bytes 3 tt k)
-bytes-alone C.RxStart bs k = refl
-bytes-alone C.RxStop bs k = refl
+bytes-alone C.Ping bs k l = refl
+bytes-alone C.GetInfo bs k l = refl
+bytes-alone (C.SetConfig m) bs k l = absurd (k m refl)
+bytes-alone (C.Tx f) bs k l = absurd (l f refl)
+bytes-alone C.RxStart bs k l = refl
+bytes-alone C.RxStop bs k l = refl
 
 -- ---- how long
 
@@ -132,12 +130,14 @@ of-back (C.Tx f) r bs = ap C.Tx (number-le 1 f r)
 of-back C.RxStart r bs = refl
 of-back C.RxStop r bs = refl
 
-pub command-back : (c : Command) → CommandIn c → (bs : List ℕ) → exactly (command_form (command_kind c) (command_bytes c bs)) (length (command_bytes c bs)) ≡ true
+pub command-back : (c : Command) → CommandIn c → (bs : List ℕ) → exactly (command_form (command_kind c) (command_bytes c bs)) (length (command_bytes c bs))
+    ≡ true
     → read_command (command_kind c) (command_bytes c bs) ≡ A.Command c
 unfolding read_command
 command-back c r bs e = simp (command-is c, e) (ap A.Command (of-back c r bs))
 
-pub command-tail : (c : Command) → CommandIn c → (bs : List ℕ) → exactly (command_form (command_kind c) (command_bytes c bs)) (length (command_bytes c bs)) ≡ true
+pub command-tail : (c : Command) → CommandIn c → (bs : List ℕ) → exactly (command_form (command_kind c) (command_bytes c bs)) (length (command_bytes c bs))
+    ≡ true
     → command_tail (command_kind c) (command_bytes c bs) ≡ bs
 unfolding command_form command_tail command_bytes tx_bytes lay le
 command-tail C.Ping r bs e = refl

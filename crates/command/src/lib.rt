@@ -1,4 +1,6 @@
 // The six commands and their payloads: P 6.1 to 6.6.
+#![tactic(auto)]
+
 ghost use Rattle.std.specs.Prelude.{◌≡◌, true, ◌≤◌, length};
 ghost use Rattle.buffer.specs.Lay.{lay};
 ghost use Rattle.form.specs.Forms.{exactly};
@@ -16,7 +18,7 @@ pub const FLAGS_MAX: u8 = 1;
 
 // A command. The bytes of variable length stay beside it, in the caller's memory: a TX's packet and
 // an FSK configuration's sync word.
-#[derive(Drop)]
+#[derive(Clone, Copy)]
 pub enum Command {
     Ping,
     GetInfo,
@@ -27,7 +29,7 @@ pub enum Command {
 }
 
 // What reading a payload answers.
-#[derive(Drop)]
+#[derive(Clone, Copy)]
 pub enum Asked {
     Command(Command),
     Refused(Refusal),

@@ -1,5 +1,7 @@
 // Commands and answers, as values, written as bodies and frames: 01 "Numbers that come back". The
 // host writes commands, the device writes answers.
+#![tactic(auto)]
+
 ghost use Rattle.std.specs.Prelude.{◌≡◌, cond, length};
 ghost use Rattle.frame.specs.Writing.{written_result};
 ghost use Rattle.kind.specs.Kinds.{tag_wrong};

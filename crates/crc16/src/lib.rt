@@ -1,5 +1,7 @@
 // The check value of a frame ("check" in 01): CRC-16 with polynomial 0x1021 and start 0xFFFF, not
 // reflected, with no final xor, as P appendix B has it.
+#![tactic(auto)]
+
 ghost use Rattle.std.specs.Prelude.{◌≡◌};
 ghost use Rattle.crc16.specs.Crc.{byte, crc_of};
 

@@ -1,9 +1,11 @@
 // The form of a payload: FORM of 01 "Numbers that come back" is judged by it.
+#![tactic(auto)]
+
 ghost use Rattle.std.specs.Prelude.{◌≡◌};
 ghost use Rattle.form.specs.Forms.{exactly, at_least};
 
 // How many bytes the known fields of a payload take, or that its layout or a value is wrong.
-#[derive(Drop)]
+#[derive(Clone, Copy)]
 pub enum Form {
     Size(usize),
     Wrong,

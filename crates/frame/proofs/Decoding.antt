@@ -16,13 +16,9 @@ use Rattle.cobs.specs.contracts.Decoded.{the_type}
 use Rattle.cobs.proofs.Laws.{decoded-length}
 use Rattle.frame.proofs.Laws.{take-laid}
 
--- the tags of the answers beside `Done`
-abbrev others : List ℕ
-others = 1 ∷ 2 ∷ 3 ∷ []
-
-refused : (b : Bool) (n : ℕ) → OneOf others (tag_of the_type (cond b D.Stuff (D.Done n))) → b ≡ true
+refused : (b : Bool) (n : ℕ) → ((x : ℕ) → cond b D.Stuff (D.Done n) ≡ D.Done x → ⊥) → b ≡ true
 refused true n k = refl
-refused false n k = absurd (miss others 0 tt k)
+refused false n k = absurd (k n refl)
 
 done : (b : Bool) (n : ℕ) {m : ℕ} → cond b D.Stuff (D.Done n) ≡ D.Done m → (b ≡ false) × (m ≡ n)
 done true n e = (cc, cc)
@@ -34,7 +30,7 @@ module _ (run d : List ℕ) (small : length run ≤ encoded_max) (room : encoded
   answers = simp (le-ltb encoded_max (length run) small, le-ltb (length d) (length run) (omega arith))
 
   -- an answer that is not `Done`
-  pub is-broken : OneOf others (tag_of the_type (decode_answer run (length d))) → broken run ≡ true
+  pub is-broken : ((x : ℕ) → decode_answer run (length d) ≡ D.Done x → ⊥) → broken run ≡ true
   is-broken k = refused (broken run) (length (decoded run)) (rw answers at k)
 
   -- `Done`

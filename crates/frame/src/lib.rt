@@ -1,6 +1,8 @@
 // Frames: a body of type, tag, payload and check value, encoded and ended by a zero; and a run, what
 // stands before a frame's zero, opened: its body, or why it is none. P 2, with the choices of 01 "Bytes
 // on the wire" and "Numbers that come back".
+#![tactic(auto)]
+
 ghost use Rattle.std.specs.Prelude.{◌≡◌, ◌≤◌, length};
 ghost use Rattle.buffer.specs.Lay.{lay};
 ghost use Rattle.cobs.specs.Answers.{encoded_max};
@@ -23,7 +25,7 @@ pub const FRAME_MAX: usize = ENCODED_MAX + 1;
 pub const CHECK_SIZE: usize = 2;
 
 // What writing answers.
-#[derive(Drop)]
+#[derive(Clone, Copy)]
 pub enum Written {
     // So many bytes were written.
     Done(usize),
@@ -32,7 +34,7 @@ pub enum Written {
 }
 
 // What reading a run answers.
-#[derive(Drop)]
+#[derive(Clone, Copy)]
 pub enum Opened {
     // A body, with so many bytes of payload.
     Body { kind: u8, tag: u16, len: usize },

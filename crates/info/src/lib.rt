@@ -1,4 +1,6 @@
 // What the device says of itself, the OK to GET_INFO: P 6.2.
+#![tactic(auto)]
+
 ghost use Rattle.std.specs.Prelude.{◌≡◌, true, ◌≤◌, length};
 ghost use Rattle.buffer.specs.Lay.{lay};
 ghost use Rattle.scalar.specs.Scalars.{column, get};
@@ -16,7 +18,7 @@ const MCU_MAX: u8 = 32;
 
 const RADIO_MAX: u8 = 16;
 // What the device says of itself: P 6.2. The uids stay in the caller's bytes, mcu_uid first.
-#[derive(Drop)]
+#[derive(Clone, Copy)]
 pub struct Info {
     pub proto_major: u8,
     pub proto_minor: u8,

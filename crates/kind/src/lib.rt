@@ -1,5 +1,7 @@
 // The numbers of messages: the ten types, and which tags each may have (P 4; 01 "Numbers that come
 // back", 8 and 9), error codes, results, and the longest packet.
+#![tactic(auto)]
+
 ghost use Rattle.std.specs.Prelude.{◌≡◌};
 ghost use Rattle.kind.specs.Kinds.{is_command, is_answer, tag_wrong};
 
@@ -58,7 +60,7 @@ pub const MINE: u8 = 1;
 pub const PACKET_MAX: usize = 255;
 
 // The commands by their names: an OK is read as the answer to one of them.
-#[derive(Drop)]
+#[derive(Clone, Copy)]
 pub enum Name {
     Ping,
     GetInfo,

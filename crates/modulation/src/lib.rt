@@ -1,4 +1,6 @@
 // Modulations and their parameters: P 10. LoRa and FSK, as 01 covers them.
+#![tactic(auto)]
+
 ghost use Rattle.std.specs.Prelude.{◌≡◌, true, ◌∷◌, ◌++◌, ◌+◌, ◌≤◌, length};
 ghost use Rattle.buffer.specs.Lay.{lay};
 ghost use Rattle.form.specs.Forms.{at_least};
@@ -28,7 +30,7 @@ pub const SYNC_WORD_LEN: usize = 15;
 pub const SYNC_WORD_MAX: u8 = 8;
 
 // LoRa's parameters: P 10.1.
-#[derive(Drop)]
+#[derive(Clone, Copy)]
 pub struct Lora {
     pub freq_hz: u32,
     pub sf: u8,
@@ -43,7 +45,7 @@ pub struct Lora {
 }
 
 // FSK's parameters: P 10.2. The sync word stays in the caller's bytes.
-#[derive(Drop)]
+#[derive(Clone, Copy)]
 pub struct Fsk {
     pub freq_hz: u32,
     pub bitrate_bps: u32,
@@ -54,7 +56,7 @@ pub struct Fsk {
 }
 
 // A modulation with its parameters.
-#[derive(Drop)]
+#[derive(Clone, Copy)]
 pub enum Modulation {
     Lora(Lora),
     Fsk(Fsk),

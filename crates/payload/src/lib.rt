@@ -1,4 +1,6 @@
 // The payload of an answer, written: P 6.7 to 6.10, with the OK's payloads of P 6.2 and 6.3.
+#![tactic(auto)]
+
 ghost use Rattle.std.specs.Prelude.{◌≡◌, ◌++◌, ◌≤◌, length};
 ghost use Rattle.buffer.specs.Lay.{lay};
 ghost use Rattle.answer.specs.Answers.{answer_bytes, configured_bytes, tx_done_bytes};

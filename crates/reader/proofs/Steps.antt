@@ -77,7 +77,8 @@ module _ (kinds : Kinds) (run d : List ℕ) {k t n : ℕ} (e : receive_answer ki
   -- it passed TAG, TYPE and FORM
   pub was-good : Good kinds k t (fits_read kinds k (payload_of (decoded run)))
   unfolding receive_answer
-  was-good = good kinds k t (fits_read kinds k (payload_of (decoded run))) (go (check kinds k t (fits_read kinds k (payload_of (decoded run)))) (rw was-open at e))
+  was-good = good kinds k t (fits_read kinds k (payload_of (decoded run)))
+      (go (check kinds k t (fits_read kinds k (payload_of (decoded run)))) (rw was-open at e))
     where
       go : (j : Checked) → if_wellformed j (O.Body k t n) ≡ O.Body k t n → j ≡ J.Good
       go J.Good f = refl

@@ -1,5 +1,7 @@
 // Messages read from frames: 01 "Numbers that come back". The host reads answers, the device reads
 // commands.
+#![tactic(auto)]
+
 ghost use Rattle.std.specs.Prelude.{◌≡◌, length};
 ghost use Rattle.cobs.specs.Decoding.{decoded};
 ghost use Rattle.frame.specs.Reading.{opened_result};

@@ -1,4 +1,6 @@
 // A received packet, RX: P 6.9.
+#![tactic(auto)]
+
 ghost use Rattle.std.specs.Prelude.{◌≡◌, ◌≤◌, length};
 ghost use Rattle.rx.specs.Rx.{rx_size, rx_form, rx_of, rx_packet, rx_bytes};
 
@@ -15,7 +17,7 @@ pub const PACKETS_DROPPED: usize = 17;
 const ORIGIN: usize = 19;
 
 // A received packet without its bytes: P 6.9.
-#[derive(Drop)]
+#[derive(Clone, Copy)]
 pub struct Rx {
     pub rssi: i16,
     pub snr: i16,

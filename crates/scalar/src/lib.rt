@@ -1,5 +1,7 @@
 // Numbers in a payload: P 5.1. Each stands low byte first, a signed one in two's complement.
 // Internal: callers of those that read prove that the bytes are there.
+#![tactic(auto)]
+
 ghost use Rattle.std.specs.Prelude.{◌≡◌, [], ◌∷◌, ◌+◌, ◌≤◌, length};
 ghost use Rattle.scalar.specs.Scalars.{le, sign8, sign16, sign32, unsigned, signed, column, get};
 
@@ -43,7 +45,7 @@ pub fn bytes_of_u16(x: u16) -> [u8; 2]
 
 // Eight bytes, low byte first. They are fields and no array, so that a literal of more bytes can
 // name each in its place.
-#[derive(Drop)]
+#[derive(Clone, Copy)]
 pub struct Eight {
     pub b0: u8,
     pub b1: u8,

@@ -1,5 +1,7 @@
 // The numbers that come back, for code: 01 "Numbers that come back", and those of 02. specs/Numbers.antt
 // has the same table, and says exactly when each applies.
+#![tactic(auto)]
+
 ghost use Rattle.std.specs.Prelude.{◌≡◌};
 ghost use Rattle.status.specs.Refusals.{refusal_number};
 
@@ -46,7 +48,7 @@ pub const AIR: u8 = 12;
 pub const WIDE: u8 = 13;
 
 // Why a reader or a writer refuses: 4 to 10 of the table.
-#[derive(Drop)]
+#[derive(Clone, Copy)]
 pub enum Refusal {
     Short,
     Stuff,

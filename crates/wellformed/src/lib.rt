@@ -1,4 +1,6 @@
 // Whether a message is well-formed: 01 "Numbers that come back", 8 to 10.
+#![tactic(auto)]
+
 ghost use Rattle.std.specs.Prelude.{◌≡◌};
 ghost use Rattle.wellformed.specs.Checking.{has, form_of, fits_read, fits_written, check, checked_number};
 
@@ -7,7 +9,7 @@ use kind::Name;
 use status::Refusal;
 
 // Which types a reader or a writer has.
-#[derive(Drop)]
+#[derive(Clone, Copy)]
 pub enum Kinds {
     // The six commands.
     Commands,
@@ -19,7 +21,7 @@ pub enum Kinds {
 }
 
 // What checking a message gives.
-#[derive(Drop)]
+#[derive(Clone, Copy)]
 pub enum Checked {
     Good,
     Refused(Refusal),

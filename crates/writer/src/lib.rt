@@ -1,4 +1,6 @@
 // Messages written as bodies and frames, by type, tag and payload: 01 "Numbers that come back".
+#![tactic(auto)]
+
 ghost use Rattle.std.specs.Prelude.{◌≡◌, length};
 ghost use Rattle.frame.specs.Writing.{written_result};
 ghost use Rattle.writer.specs.Writing.{body_answer, body_left, write_answer, write_left};
