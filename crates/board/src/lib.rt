@@ -1,5 +1,7 @@
 // The board: the parameters that it takes, LDRO, and what it says of itself. Its profile is a
 // definition, 01 "What the firmware covers".
+#![tactic(auto)]
+
 ghost use Rattle.std.specs.Prelude.{◌≡◌, get_or};
 ghost use Rattle.info.specs.Info.{info_bytes};
 ghost use Rattle.board.specs.Board.{sx1262, board_info, uids_of};

@@ -1,4 +1,6 @@
 // The device's state and its answers, and the steps that all events share.
+#![tactic(auto)]
+
 ghost use Rattle.std.specs.Prelude.{◌≡◌};
 ghost use Rattle.control.specs.Control.{power_up, with_link, with_air, with_inbox, with_radio, with_receiving, ring_emptied, reception_ended, stalled, idle};
 ghost use Rattle.control.specs.Control as C;
@@ -12,7 +14,7 @@ pub const ROOM_MIN: usize = FRAME_MAX;
 
 // UNCONFIGURED, or the modulation of the configuration in force. Of the rest of it nothing is
 // needed any more.
-#[derive(Drop)]
+#[derive(Clone, Copy)]
 pub enum Mode {
     Unconfigured,
     Lora,
@@ -21,7 +23,7 @@ pub enum Mode {
 
 // What the radio does: 01 "What each event does". The SET_CONFIG that it is being configured with
 // stands in the memory of commands.
-#[derive(Drop)]
+#[derive(Clone, Copy)]
 pub enum Radio {
     Free,
     // It waits for a clear channel, to send the TX with this tag.
@@ -35,7 +37,7 @@ pub enum Radio {
 
 // The host's side: whether a session is open, the liveness count in ms, and how long the run is.
 // The run's bytes stand in the memory of the run; one that is too long has length 283.
-#[derive(Drop)]
+#[derive(Clone, Copy)]
 pub struct Link {
     pub session: bool,
     pub ticks: u16,
@@ -44,7 +46,7 @@ pub struct Link {
 
 // The radio's side: the radio, whether a SET_CONFIG waits, and the TX that wait: the slot of the
 // oldest, and how many. Their bytes stand in the memory of commands.
-#[derive(Drop)]
+#[derive(Clone, Copy)]
 pub struct Air {
     pub radio: Radio,
     pub pending: bool,
@@ -54,7 +56,7 @@ pub struct Air {
 
 // Reception: whether it is on, the slot of the oldest packet, how many are held, and the drop
 // count. Their bytes stand in the memory of packets.
-#[derive(Drop)]
+#[derive(Clone, Copy)]
 pub struct Inbox {
     pub receiving: bool,
     pub first: u8,
@@ -63,7 +65,7 @@ pub struct Inbox {
 }
 
 // The device's state, beside its three memories.
-#[derive(Drop)]
+#[derive(Clone, Copy)]
 pub struct Device {
     pub mode: Mode,
     pub link: Link,
@@ -73,7 +75,7 @@ pub struct Device {
 
 // The order to the radio. Two of them name bytes in the memory of commands, len of them from index
 // at on: a modulation with its parameters, and a packet.
-#[derive(Drop)]
+#[derive(Clone, Copy)]
 pub enum Order {
     Nothing,
     Standby,
@@ -84,7 +86,7 @@ pub enum Order {
 
 // What an event does that is taken: the next state, how many bytes of the output were written, and
 // the order.
-#[derive(Drop)]
+#[derive(Clone, Copy)]
 pub struct Taken {
     pub device: Device,
     pub written: usize,
@@ -92,7 +94,7 @@ pub struct Taken {
 }
 
 // What an event answers: 01's number too.
-#[derive(Drop)]
+#[derive(Clone, Copy)]
 pub struct Reply {
     pub device: Device,
     pub number: u8,

@@ -29,7 +29,17 @@ use Rattle.info.proofs.Laws.{info-form-of}
 use Rattle.rx.specs.Rx.{rx_bytes}
 use Rattle.rx.specs.Ranges.{RxIn}
 use Rattle.rx.proofs.Laws.{length-rx, rx-form-back}
-use Rattle.answer.specs.Answers.{configured_form, configured_bytes, tx_done_form, tx_done_max, tx_done_bytes, answer_form, answer_kind, answer_name, answer_bytes}
+use Rattle.answer.specs.Answers.{
+  configured_form,
+  configured_bytes,
+  tx_done_form,
+  tx_done_max,
+  tx_done_bytes,
+  answer_form,
+  answer_kind,
+  answer_name,
+  answer_bytes,
+}
 use Rattle.answer.proofs.Laws.{answer-is}
 use Rattle.wellformed.specs.Checking.{has, form_of, fits_written, check}
 use Rattle.wellformed.specs.declared.Kinds.TheVariants as K

@@ -47,7 +47,21 @@ use Rattle.device.specs.Frames.{Received, damaged, command, received, untagged, 
 use Rattle.device.specs.Frames.{other_modulation, config_sized, sized, error_of, good, setting_of, tx_of}
 use Rattle.device.specs.Events.{Done, does, Out, begun, start, begin, next, after_tx, writes_first, waits_for, on_tx, ring_emptied, on_set, turned}
 use Rattle.device.specs.Events.{on_command, unless, on_received}
-use Rattle.device.specs.Events.{on_run, on_byte, unless_stalled, on_clear, on_busy, on_sent, on_configured, in_force, if_session, on_fault, cut, kept, drops_max}
+use Rattle.device.specs.Events.{
+  on_run,
+  on_byte,
+  unless_stalled,
+  on_clear,
+  on_busy,
+  on_sent,
+  on_configured,
+  in_force,
+  if_session,
+  on_fault,
+  cut,
+  kept,
+  drops_max,
+}
 use Rattle.device.specs.Events.{listens, on_packet, on_request, ended, end_session, ticks_max, on_tick, on_disconnect, on_event, room_min, unless_room, step}
 use Rattle.device.specs.Tally.{wrote}
 use Rattle.device.specs.Ranges.{PacketIn, EventIn, InputIn, BoardIn}

@@ -1,5 +1,7 @@
 // A command that was received: judged, and carried out. 01 "A run of bytes becomes a frame", steps 2
 // to 7, and "What each event does".
+#![tactic(auto)]
+
 ghost use Rattle.std.specs.Prelude.{◌≡◌, ◌≤◌, ◌<◌, length};
 ghost use Rattle.board.specs.Board.{tx_max};
 ghost use Rattle.device.specs.Events.{room_min};

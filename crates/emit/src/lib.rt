@@ -1,5 +1,7 @@
 // The device's messages on the wire: each is written as a frame to lent output, from an index on.
 // Internal: callers prove that there is room.
+#![tactic(auto)]
+
 ghost use Rattle.std.specs.Prelude.{◌+◌, ◌≤◌, length};
 ghost use Rattle.cobs.specs.Encoding.{worst};
 ghost use Rattle.frame.specs.Body.{overhead, payload_max};

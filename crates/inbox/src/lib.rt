@@ -1,4 +1,6 @@
 // Two of the ten events, reception: packet and request. 01 "What each event does".
+#![tactic(auto)]
+
 ghost use Rattle.std.specs.Prelude.{◌≡◌, ◌+◌, ◌≤◌, ◌<◌, [], length};
 ghost use Rattle.buffer.specs.Lay.{lay};
 ghost use Rattle.kind.specs.Kinds as K;
@@ -27,7 +29,7 @@ const DROPS_MAX: u16 = 65535;
 
 // The status of a received packet, beside its bytes: RX's values, without those that the device
 // adds.
-#[derive(Drop)]
+#[derive(Clone, Copy)]
 pub struct PacketStatus {
     pub rssi: i16,
     pub snr: i16,

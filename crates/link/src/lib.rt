@@ -1,4 +1,6 @@
 // One of the ten events: byte. 01 "A run of bytes becomes a frame".
+#![tactic(auto)]
+
 ghost use Rattle.std.specs.Prelude.{◌≡◌, ◌≤◌, ◌<◌, [], length, take};
 ghost use Rattle.device.specs.Frames as F;
 ghost use Rattle.device.specs.Events.{room_min};

@@ -1,4 +1,6 @@
 // The device in code as one function: any of the ten events, with the state and its memories.
+#![tactic(auto)]
+
 ghost use Rattle.std.specs.Prelude.{◌≡◌};
 ghost use Rattle.control.specs.Control.{reply_numbers};
 ghost use Rattle.machine.specs.Machine.{event_of, leaves};
@@ -10,7 +12,7 @@ use slot::COMMANDS;
 
 // The events: 01 "The tally behind demand 3". Sent has the airtime in us; a packet's bytes are lent
 // beside it.
-#[derive(Drop)]
+#[derive(Clone, Copy)]
 pub enum Event {
     Byte(u8),
     Tick,

@@ -5,8 +5,6 @@ use mathlib.Core.Path.{◌≡◌, refl, ap, ◌∙◌}
 use mathlib.Core.Bool.{Bool, true, false}
 use mathlib.Core.List.{List, [], ◌∷◌}
 use native.Mathlib.Omega.{arith}
-use denote.Enum.Declared.{tag_of}
-use types.Run.{OneOf, miss}
 use lib.ListN.{length, take, drop, length-take, length-drop}
 use Rattle.status.specs.Numbers.{PLACE}
 use Rattle.buffer.specs.Lay.{lay}
@@ -18,58 +16,44 @@ use Rattle.control.specs.declared.Radio.{Radio}
 use Rattle.control.specs.declared.Radio.TheVariants.{Free, Listening, OnAir, Orphan, Configuring}
 use Rattle.control.specs.declared.Device.{Device}
 use Rattle.control.specs.Control.{writes_first, Out, refused}
-use Rattle.control.specs.contracts.Radio.{the_type}
 use Rattle.queue.specs.Queue.{after_tx}
 use Rattle.outcome.specs.Outcomes.{on_sent, on_fault, fault_frames, on_configured}
 use lib.Seq.{take_at}
 
 -- ---- the arms of a match that stand for several variants
 
-abbrev pub Arm : List ℕ → Radio → Type 0
-Arm ks r = OneOf ks (tag_of the_type r)
-
-abbrev not-listening : List ℕ
-not-listening = 0 ∷ 2 ∷ 3 ∷ 4 ∷ []
-
 -- f gives y in each of them
 pub unless-listening : (f : Radio → Out) {y : Out} → f Free ≡ y → ((t : ℕ) → f (OnAir t) ≡ y) → f Orphan ≡ y → f Configuring ≡ y → (r : Radio)
-    → Arm not-listening r → f r ≡ y
+    → ((t : ℕ) → r ≡ Listening t → ⊥) → f r ≡ y
 unless-listening f a b p q Free k = a
-unless-listening f a b p q (Listening t) k = absurd (miss not-listening 1 tt k)
+unless-listening f a b p q (Listening t) k = absurd (k t refl)
 unless-listening f a b p q (OnAir t) k = b t
 unless-listening f a b p q Orphan k = p
 unless-listening f a b p q Configuring k = q
 
-abbrev not-sending : List ℕ
-not-sending = 0 ∷ 1 ∷ 4 ∷ []
+pub sent-other : (airtime : ℕ) (r : Radio) (m : List ℕ) (d : Device) → ((t : ℕ) → r ≡ OnAir t → ⊥) → (r ≡ Orphan → ⊥)
+    → on_sent airtime r m d ≡ refused PLACE d
+sent-other airtime Free m d k l = refl
+sent-other airtime (Listening t) m d k l = refl
+sent-other airtime (OnAir t) m d k l = absurd (k t refl)
+sent-other airtime Orphan m d k l = absurd (l refl)
+sent-other airtime Configuring m d k l = refl
 
-pub sent-other : (airtime : ℕ) (r : Radio) (m : List ℕ) (d : Device) → Arm not-sending r → on_sent airtime r m d ≡ refused PLACE d
-sent-other airtime Free m d k = refl
-sent-other airtime (Listening t) m d k = refl
-sent-other airtime (OnAir t) m d k = absurd (miss not-sending 2 tt k)
-sent-other airtime Orphan m d k = absurd (miss not-sending 3 tt k)
-sent-other airtime Configuring m d k = refl
-
-abbrev not-configuring : List ℕ
-not-configuring = 0 ∷ 1 ∷ 2 ∷ 3 ∷ []
-
-pub configured-other : (r : Radio) (m : List ℕ) (d : Device) → Arm not-configuring r → on_configured r m d ≡ refused PLACE d
+pub configured-other : (r : Radio) (m : List ℕ) (d : Device) → (r ≡ Configuring → ⊥) → on_configured r m d ≡ refused PLACE d
 configured-other Free m d k = refl
 configured-other (Listening t) m d k = refl
 configured-other (OnAir t) m d k = refl
 configured-other Orphan m d k = refl
-configured-other Configuring m d k = absurd (miss not-configuring 4 tt k)
+configured-other Configuring m d k = absurd (k refl)
 
 -- nothing of an open session is with the radio
-abbrev not-held : List ℕ
-not-held = 0 ∷ 3 ∷ []
-
-pub fault-other : (r : Radio) (m : List ℕ) (d : Device) → Arm not-held r → on_fault r m d ≡ writes_first (fault_frames d.link.session 0) (after_tx m d)
-fault-other Free m d k = refl
-fault-other (Listening t) m d k = absurd (miss not-held 1 tt k)
-fault-other (OnAir t) m d k = absurd (miss not-held 2 tt k)
-fault-other Orphan m d k = refl
-fault-other Configuring m d k = absurd (miss not-held 4 tt k)
+pub fault-other : (r : Radio) (m : List ℕ) (d : Device) → ((t : ℕ) → r ≡ Listening t → ⊥) → ((t : ℕ) → r ≡ OnAir t → ⊥) → (r ≡ Configuring → ⊥)
+    → on_fault r m d ≡ writes_first (fault_frames d.link.session 0) (after_tx m d)
+fault-other Free m d k l n = refl
+fault-other (Listening t) m d k l n = absurd (k t refl)
+fault-other (OnAir t) m d k l n = absurd (l t refl)
+fault-other Orphan m d k l n = refl
+fault-other Configuring m d k l n = absurd (n refl)
 
 -- ---- the OK to a SET_CONFIG
 

@@ -1,5 +1,7 @@
 // Five of the ten events, outcomes of the radio: clear, busy, sent, configured, fault.
 // 01 "What each event does".
+#![tactic(auto)]
+
 ghost use Rattle.std.specs.Prelude.{◌≡◌, ◌≤◌, length};
 ghost use Rattle.buffer.specs.Lay.{lay};
 ghost use Rattle.device.specs.Events.{room_min};

@@ -33,7 +33,8 @@ begun first t = radio_is (E.begun first t)
 unfoldable pub start : List ℕ → ℕ → ℕ → Device → Done
 start m k n d =
     let first = listens d.mode (head_at m k) in
-    does (with_air d (air (begun first (tag_at m k)) false ((k + 1) % tx_max) n)) [] (Transmit (k * slot_size + (payload_offset + flags_size)) (len_at m k) first)
+    does (with_air d (air (begun first (tag_at m k)) false ((k + 1) % tx_max) n)) []
+    (Transmit (k * slot_size + (payload_offset + flags_size)) (len_at m k) first)
 
 -- ---- those that wait
 

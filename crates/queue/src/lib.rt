@@ -1,5 +1,7 @@
 // The commands that were taken and are not done: the TX that are with the radio or wait, and the
 // SET_CONFIG that waits or runs. Internal to the events.
+#![tactic(auto)]
+
 ghost use Rattle.std.specs.Prelude.{◌≡◌, ◌+◌, ◌*◌, ◌≤◌, ◌<◌, min, length};
 ghost use Rattle.board.specs.Board.{tx_max};
 ghost use Rattle.control.specs.Control.{Gives, done_at};

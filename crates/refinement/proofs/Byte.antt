@@ -58,7 +58,8 @@ module _ {d : Device} {run m ps : List ℕ} {s : State} (h : Stands d run m ps s
   on-run (suc n) (r ∷ rs) (as-run l e) b =
       brings (received (r ∷ rs)) (received-in (r ∷ rs) b) (suc n) (rw (le-ltb 282 (suc n) l, ← e))
   on-run (suc n) (r ∷ rs) (as_long l e) b =
-      subst (λ (f : Received). Ruling h calm (dispatches (suc n) run m (with_link d (link true 0 0))) (E.on_received sx1262 f (S.with_link (S.link true 0 []) s)))
+      subst (λ (f : Received). Ruling h calm (dispatches (suc n) run m (with_link d (link true 0 0)))
+      (E.on_received sx1262 f (S.with_link (S.link true 0 []) s)))
       (sym (long-damaged (r ∷ rs) e))
       (brings damaged tt (suc n) (rw (lt-ltb 282 (suc n) (omega arith))))
 

@@ -42,7 +42,20 @@ use Rattle.queue.specs.Queue as Q
 use Rattle.queue.specs.Queue.{start, begin, next, after_tx}
 use Rattle.validation.proofs.Laws.{none-set, none-tx}
 use Rattle.session.specs.Session.{ended, end_session, on_tick, on_disconnect, tick_out, disconnect_out}
-use Rattle.outcome.specs.Outcomes.{on_clear, on_busy, on_sent, on_fault, clear_out, busy_out, sent_out, fault_out, rearmed, in_force, on_configured, configured_out}
+use Rattle.outcome.specs.Outcomes.{
+  on_clear,
+  on_busy,
+  on_sent,
+  on_fault,
+  clear_out,
+  busy_out,
+  sent_out,
+  fault_out,
+  rearmed,
+  in_force,
+  on_configured,
+  configured_out,
+}
 use Rattle.inbox.specs.Packets.{on_packet, on_request, packet_out, request_out}
 use Rattle.dispatch.specs.Commands.{CommandGives, command_gives, open#, slot_for, waits_too, on_tx, pends, sets, on_set, turned, at_once, on_command, unless}
 use Rattle.dispatch.specs.Commands.{dispatched, on_received}

@@ -106,6 +106,9 @@ module _ {d : Device} {run m p : List ℕ} {s : State} (h : Stands d run m p s) 
           → Each TagIn (tags_of ws)
           → Agrees (writes_first (map seen ms) (next v n m d)) run m p (E.next q ws ms s)
       go true n (some c) ws (as_some q) l r e t = rw e (begins c q g)
+      go true n none ws x l r e t = elim x [ ]
+      go false zero (some c) ws x l r e t = elim x [ ]
+      go false (suc n) (some c) ws x l r e t = elim x [ ]
       go false zero none [] as_none l r e t =
           record {
             next = with-air h (empty-air d.air.first as-free h.air.first h.air.long);

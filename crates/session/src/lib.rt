@@ -1,4 +1,6 @@
 // Two of the ten events, by which a session ends: tick and disconnect. 01 "What each event does".
+#![tactic(auto)]
+
 ghost use Rattle.std.specs.Prelude.{◌≡◌};
 ghost use Rattle.control.specs.Control.{done_at, Returns};
 ghost use Rattle.session.specs.Session.{ended, end_session, tick_out, disconnect_out};

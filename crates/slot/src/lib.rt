@@ -1,5 +1,7 @@
 // The memory of the commands that were taken and are not done, in slots: sixteen for TX, and one for
 // the SET_CONFIG that waits or runs. Internal to the events.
+#![tactic(auto)]
+
 ghost use Rattle.std.specs.Prelude.{◌≡◌, ◌+◌, ◌≤◌, ◌<◌, length, get_or};
 ghost use Rattle.buffer.specs.Lay.{lay};
 ghost use Rattle.slot.specs.Slots.{kept_max, payload_offset, setting, slot_bytes, command_kept};

@@ -1,4 +1,6 @@
 // Why a command draws an ERR: 01 "A run of bytes becomes a frame", steps 2 to 7.
+#![tactic(auto)]
+
 ghost use Rattle.std.specs.Prelude.{◌≡◌, true, false, ◌&&◌, eqb};
 ghost use Rattle.kind.specs.Kinds.{SET_CONFIG};
 ghost use Rattle.board.specs.Board.{sx1262};
