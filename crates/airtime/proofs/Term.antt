@@ -67,7 +67,7 @@ else-itself (negsuc n) e = absurd (true≢false e)
 
 -- of a signed number that was handed on
 pub handed : {z t : ℤ} {n : ℕ} → mag z < 2 ^ hbits w32 → z ≡ t → n ≡ at_least_zero (to_z w32 (of_z w32 z)) → n ≡ at_least_zero t
-handed ok e f = f ∙ ap at_least_zero (to_z-of_z (record { sfits = ok }) ∙ e)
+handed ok e f = f ∙ ap at_least_zero (to_z-of_z {w = w32} (record { sfits = ok }) ∙ e)
 
 -- the bits of the payload
 pub bits_are : (a : Transmission) → at_least_zero (payload_term a) ≡ added a - taken_away a

@@ -1,4 +1,6 @@
 // Time on air of a LoRa packet, before it is sent: 02 §3, by the formula of Semtech's SX1276 data sheet.
+#![tactic(auto)]
+
 ghost use Rattle.std.specs.Prelude.{◌≡◌, false, ◌≤◌};
 ghost use Rattle.airtime.specs.Airtime.{outside, payload_term, at_least_zero, divisor, payload_symbols, microseconds, airtime, duration_result};
 
@@ -18,7 +20,7 @@ const US_MAX: u64 = 0xFFFF_FFFF;
 // What the time depends on: LoRa's parameters as they are on the wire (P 10.1), and the length of the packet. For C:
 // struct donglora_air.
 #[repr(C)]
-#[derive(Drop)]
+#[derive(Clone, Copy)]
 pub struct Transmission {
     pub sf: u8,
     pub bw: u8,
@@ -30,7 +32,7 @@ pub struct Transmission {
 }
 
 // The time on air in us; or that a value is none that the formula is for; or that the time is too long to be told.
-#[derive(Drop)]
+#[derive(Clone, Copy)]
 pub enum Duration {
     Us(u32),
     Air,

@@ -1,16 +1,17 @@
--- What the four walks of `tags` share. Each of these functions is thin: it is passed references to plain data, and plain data,
--- and asks one function that works by value. So a walk's parts are laws here: the way in and out, a reference that is opened and
--- closed, the call, and `thin`, which takes the walk to the contract. A walk says only which cell stands where.
+-- What walks of thin functions share, as the four functions of `tags` are. Each of these is passed references to plain data, and
+-- plain data, and asks one function that works by value. So a walk's parts are laws here: the way in and out, a reference that is
+-- opened and closed, the call, and `thin`, which takes the walk to the contract. A walk says only which cell stands where.
+-- The checker proves the four by itself, so nothing uses these laws.
 -- Assumes nothing.
 use mathlib.Core.Path.{◌≡◌, refl, sym, ap, subst}
 use Prim.Native.Nat.{ℕ, zero, suc, ◌+◌}
 use mathlib.Core.List.{List, [], ◌∷◌, ◌++◌}
 use mathlib.Core.Option.{some as found}
 use seplogic.Ra.Ura.{Ura}
-use seplogic.Ra.TreeShare.{full_share}
+use base.Fraction.{full_share}
 use lib.Dec.{T}
 use mir.Raw.{raw as raw_ty}
-use mir.Syntax.{Width, Ty, Fn, Name, erased, place, deref, field, copy, rv_opd, assign, seq, call, Place, Opd as Operand, Body as Code}
+use mir.Syntax.{Width, Ty, Fn, Callee, erased, place, deref, field, copy, rv_opd, assign, seq, call, Place, Opd as Operand, Body as Code}
 use mir.Val.{Val, vint, vptr, vunit, WT, has_ty}
 use base.Logic.{SProp, ent, emp, sep, id⊢, via, fst∗, snd∗, emp∗, comm∗, mono_l, mono_r, mono∗, ex_e}
 use base.Stored.{Gv}
@@ -70,7 +71,7 @@ uint w = record {
   val = vint w;
   tells = uint_Tells w;
   makes = λ 𝓛. uint_Makes 𝓛 w;
-  typed = λ 𝓛 x is. ((uint_Lawful _ _ _ 𝓛 w).typed x _ is).0;
+  typed = λ 𝓛 x is. ((uint_Lawful 𝓛 w).typed x _ is).0;
   silent = λ x w. refl;
   Parts = λ x. Unit {0};
   parts = λ x is. tt;
@@ -82,7 +83,7 @@ unit = record {
   val = λ _. vunit;
   tells = Nothing-Tells;
   makes = λ 𝓛. Nothing-Makes 𝓛;
-  typed = λ 𝓛 x is. ((Nothing-Lawful _ _ _ 𝓛).typed x _ is).0;
+  typed = λ 𝓛 x is. ((Nothing-Lawful 𝓛).typed x _ is).0;
   silent = λ x w. refl;
   Parts = λ x. Unit {0};
   parts = λ x is. tt;
@@ -95,7 +96,7 @@ struct S fs plains silent = record {
   val = laws.val S fs;
   tells = laws.tells S fs;
   makes = λ 𝓛. laws.makes S plains 𝓛;
-  typed = λ 𝓛 x is. ((laws.lawful S fs _ _ _ 𝓛).typed x _ is).0;
+  typed = λ 𝓛 x is. ((laws.lawful S fs 𝓛).typed x _ is).0;
   silent = silent;
   Parts = λ x. AreAll (fields S) (S.to x) (valss (fields S) (laws.spells S.parts fs) (S.to x));
   parts = λ x is. laws.owed S fs x _ is;
@@ -221,8 +222,8 @@ loan κ D x = (MutRef erased κ D.row).own_val x (mut_vals x)
 -- what stands for the reference x while it is open: where it points lies h
 abbrev opened : {M : Type 1} {𝓤 : Ura M} → Lft → Share → (D : Data) → MutBor D.row.Denot → D.row.Denot → Gv → Gv
     → List (Item 𝓤) → List (Item 𝓤)
-opened κ q D x h u w Γ = ‵ (cell_at full_share D.row.mir (D.val h ∷ []) x.ptr.0 x.ptr.1)
-    ∷ ‵ (fobor κ q (Body (mem D.row) x.ptr.0 x.ptr.1 x.name)) ∷ ‵ (fobs x.name u) ∷ ‵ (fauth x.name w) ∷ Γ
+opened κ q D x h u w Γ = ‵ (cell_at full_share D.row.mir (D.val h ∷ []) x.ref_ptr.0 x.ref_ptr.1)
+    ∷ ‵ (fobor κ q (Body (mem D.row) x.ref_ptr.0 x.ref_ptr.1 x.ghost_name)) ∷ ‵ (fobs x.ghost_name u) ∷ ‵ (fauth x.ghost_name w) ∷ Γ
 
 -- the cell of the local i, and its room
 module _ {M : Type 1} (𝓤 : Ura M) (H : Heap 𝓤) (E : Env 𝓤 H) (i : ℕ) where
@@ -291,7 +292,7 @@ module _ {M : Type 1} {𝓤 : Ura M} {𝓛 : Logic 𝓤} {K : Type 0} {Γ : List
 
   -- a function by value is called. What its arguments own is made and not carried. Of what it returns the fact is known, and the
   -- machine value, so that its fields can be read
-  pub asks : K → {E : Env 𝓤 H} {C : Calls 𝓤 H} {Λ : Loops 𝓤 H} {q : Post 𝓤 H} {f : Name} {xs : List Operand} {d : Place} {rest : Code}
+  pub asks : K → {E : Env 𝓤 H} {C : Calls 𝓤 H} {Λ : Loops 𝓤 H} {q : Post 𝓤 H} {f : Callee} {xs : List Operand} {d : Place} {rest : Code}
       → FmC 𝓤 H 𝓛.laws C → (B : ByValue) → Triple 𝓤 (C f) (promised B 𝓛) → (a : Denots (Ins B))
       → Are (Ins B) (Ises (Ins B)) a (given B a) → Opds K 𝓛 Γ E xs (flat (Ins B) (given B a))
       → ((r : B.out.row.Denot) → B.says a r → Is B.out.row r (B.out.val r ∷ []) → Seq K 𝓛 Γ (lands C Λ E d (B.out.val r) rest q))
@@ -330,7 +331,7 @@ module _ {M : Type 1} {𝓤 : Ura M} {𝓛 : Logic 𝓤} {K : Type 0} {Γ : List
       said r = ex_e 𝓤 _ (λ ws. snd∗ 𝓤 (sem 𝓛 (lasts (asked B) tt a ws)) (fact 𝓤 (B.says a r)))
 
       heeds : (v : Val) → Seq K 𝓛 (raw (back v) ∷ Γ) (lands C Λ E d v rest q)
-      heeds v = use1 𝓛 (later (some (λ (r : R.Denot). (‵ ftrue ⊛ ‵ (R.own r (v ∷ []))) ⊛ raw (result r)))) (id⊢ 𝓤 _) $
+      heeds v = use1 𝓛 (later (some (λ (r : R.Denot). (‵ ftrue ⊛ ‵ (R.own_val r (v ∷ []))) ⊛ raw (result r)))) (id⊢ 𝓤 _) $
           await t tt $ pick t (λ r. split t $ move t (1 ∷ []) $ use1 𝓛 (raw (fact 𝓤 (B.says a r))) (said r) $
           heard t (B.says a r) (λ e. split t $ drop t $ facts t R (Is R) (shows 𝓛 R) r (v ∷ []) (λ is.
           subst (λ (us : List Val). Is R r us → Seq K 𝓛 Γ (lands C Λ E d (only us) rest q)) (sym (B.out.tells r (v ∷ []) is)) (k r e) is)))
@@ -347,7 +348,7 @@ module _ {M : Type 1} {𝓤 : Ura M} (𝓛 : Logic 𝓤) where
     -- as it was passed, and as it is had at exit, at the last values ws
     abbrev brought : (ps : List (Param n)) → Denots (rows κs ps) → List (Item 𝓤)
     brought [] a = []
-    brought (p ∷ ps) a = ‵ ((p.slot.row κs).own a.0 (p.spell κs a.0)) ∷ brought ps a.1
+    brought (p ∷ ps) a = ‵ ((p.slot.row κs).own_val a.0 (p.spell κs a.0)) ∷ brought ps a.1
 
     abbrev kept : (ps : List (Param n)) (a : Denots (rows κs ps)) → Ends κs ps a → List (Item 𝓤)
     kept [] a ws = []
@@ -382,7 +383,7 @@ module _ {M : Type 1} {𝓤 : Ura M} (𝓛 : Logic 𝓤) where
   module _ {n : ℕ} (κs : Lfts n) where
     brought-are : (ps : List (Param n)) (a : Denots (rows κs ps)) → sem 𝓛 (owns (rows κs ps) a (vals κs ps a)) ≡ chain (brought κs ps a)
     brought-are [] a = refl
-    brought-are (p ∷ ps) a = ap (sep 𝓤 (sem 𝓛 ((p.slot.row κs).own a.0 (p.spell κs a.0)))) (brought-are ps a.1)
+    brought-are (p ∷ ps) a = ap (sep 𝓤 (sem 𝓛 ((p.slot.row κs).own_val a.0 (p.spell κs a.0)))) (brought-are ps a.1)
 
     kept-are : (ps : List (Param n)) (a : Denots (rows κs ps)) (ws : Ends κs ps a)
         → sem 𝓛 (has_of κs (slots ps) (all yes (slots ps)) (stays ps) a ws (vals κs ps a)) ≡ chain (kept κs ps a ws)
@@ -399,7 +400,7 @@ pub record Thin : Type 3 where
       → Clauses 𝓤 (ended_of params out)
   pub code : Fn
   pub callee : ByValue
-  pub key : Name
+  pub key : Callee
 
 module _ (F : Thin) where
   abbrev ended : Ended
@@ -445,7 +446,7 @@ module _ (F : Thin) where
   -- and what the walk gives: the function meets its contract. γ says what the MIR's calls mean, k is the function's own key, and r
   -- the callee's routine
   module _ {M : Type 1} {𝓤 : Ura M} (𝓛 : Logic 𝓤) (𝓜 : Model 𝓤 𝓛.H) (𝓡 : Running 𝓤 𝓛.H 𝓜)
-      (γ : Bindings) (k : Name) (r : Routine) where
+      (γ : Bindings) (k : Callee) (r : Routine) where
     open 𝓛 use {H}
 
     pub thin : γ F.key ≡ r → Triple 𝓤 (𝓡.run r) (promised F.callee 𝓛)

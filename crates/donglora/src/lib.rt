@@ -1,5 +1,7 @@
-// What C programs call; include/donglora.h is its other side. Each function is one call, with the
-// contract of the function that it calls; those of the ledger, which is lent, are in tags.rt.
+// What C programs call, as a library: crate donglora_c exports each function under its name. Each is one
+// call, with the contract of the function that it calls; those of the ledger, which is lent, are in tags.rt.
+#![tactic(auto)]
+
 ghost use Rattle.std.specs.Prelude.{◌≡◌, length};
 ghost use Rattle.status.specs.Result.{value_or};
 ghost use Rattle.crc16.specs.Crc.{crc_of};
@@ -12,25 +14,24 @@ ghost use Rattle.writer.specs.Writing.{write_answer, write_left};
 ghost use Rattle.airtime.specs.Airtime.{airtime};
 ghost use Rattle.ffi_host.specs.Reports.{name_in, message_report, rx_report, tx_done_report};
 
-// Public for crate ffi_refinement, which says of each call that C can make what its types say.
+// Public for crate donglora_c, and for crate ffi_refinement, which says of each call that C can make what its
+// types say.
 pub mod event;
-mod tags;
+pub mod tags;
 
 use airtime::Transmission;
 use ffi_host::{MessageReport, RxReport, TxDoneReport};
 use wellformed::Kinds;
 
 // The check value of src.
-#[unsafe(no_mangle)]
-pub extern "C" fn donglora_crc16(src: &[u8]) -> u16
+pub fn donglora_crc16(src: &[u8]) -> u16
     ensures { result ≡ crc_of src.now }
 {
     crc16::crc16(src)
 }
 
 // Encodes src into dst, and stores the count of bytes in written.
-#[unsafe(no_mangle)]
-pub extern "C" fn donglora_cobs_encode(src: &[u8], dst: &mut [u8], written: &mut usize) -> u8
+pub fn donglora_cobs_encode(src: &[u8], dst: &mut [u8], written: &mut usize) -> u8
     ensures value { result ≡ (encoded_result (encode_answer src.now (length dst.old))).number }
     ensures dst_after { dst.new ≡ encode_left src.now dst.old }
     ensures written_after { written.new
@@ -40,8 +41,7 @@ pub extern "C" fn donglora_cobs_encode(src: &[u8], dst: &mut [u8], written: &mut
 }
 
 // Decodes src into dst, and stores the count of bytes in written.
-#[unsafe(no_mangle)]
-pub extern "C" fn donglora_cobs_decode(src: &[u8], dst: &mut [u8], written: &mut usize) -> u8
+pub fn donglora_cobs_decode(src: &[u8], dst: &mut [u8], written: &mut usize) -> u8
     ensures value { result ≡ (decoded_result (decode_answer src.now (length dst.old))).number }
     ensures dst_after { dst.new ≡ decode_left src.now dst.old }
     ensures written_after { written.new
@@ -52,8 +52,7 @@ pub extern "C" fn donglora_cobs_decode(src: &[u8], dst: &mut [u8], written: &mut
 
 // Writes the frame of a command from its type, tag and payload, and stores the count of bytes in
 // written.
-#[unsafe(no_mangle)]
-pub extern "C" fn donglora_write_command(
+pub fn donglora_write_command(
     kind: u8,
     tag: u16,
     payload: &[u8],
@@ -69,8 +68,7 @@ pub extern "C" fn donglora_write_command(
 }
 
 // Reads a frame of whatever type and tag, and puts its body at the start of body.
-#[unsafe(no_mangle)]
-pub extern "C" fn donglora_read_frame(run: &[u8], body: &mut [u8]) -> MessageReport
+pub fn donglora_read_frame(run: &[u8], body: &mut [u8]) -> MessageReport
     ensures value { result ≡ message_report (opened_result (open_answer run.now (length body.old))) }
     ensures body_after { body.new ≡ open_left run.now body.old }
 {
@@ -79,8 +77,7 @@ pub extern "C" fn donglora_read_frame(run: &[u8], body: &mut [u8]) -> MessageRep
 
 // Reads the frame of an answer, where an OK is that to a command, and puts its body at the start of
 // body.
-#[unsafe(no_mangle)]
-pub extern "C" fn donglora_read_answer(command: u8, run: &[u8], body: &mut [u8]) -> MessageReport
+pub fn donglora_read_answer(command: u8, run: &[u8], body: &mut [u8]) -> MessageReport
     ensures value { result ≡ message_report (opened_result (receive_answer (Kinds.Answers (name_in command)) run.now (length body.old))) }
     ensures body_after { body.new ≡ receive_left (Kinds.Answers (name_in command)) run.now body.old }
 {
@@ -88,8 +85,7 @@ pub extern "C" fn donglora_read_answer(command: u8, run: &[u8], body: &mut [u8])
 }
 
 // Reads the frame of an RX, and puts its body at the start of body.
-#[unsafe(no_mangle)]
-pub extern "C" fn donglora_read_rx(run: &[u8], body: &mut [u8]) -> RxReport
+pub fn donglora_read_rx(run: &[u8], body: &mut [u8]) -> RxReport
     ensures value { result ≡ rx_report (opened_result (receive_answer Kinds.Rx run.now (length body.old))) (decoded run.now) }
     ensures body_after { body.new ≡ receive_left Kinds.Rx run.now body.old }
 {
@@ -97,8 +93,7 @@ pub extern "C" fn donglora_read_rx(run: &[u8], body: &mut [u8]) -> RxReport
 }
 
 // Reads the frame of a TX_DONE, and puts its body at the start of body.
-#[unsafe(no_mangle)]
-pub extern "C" fn donglora_read_tx_done(run: &[u8], body: &mut [u8]) -> TxDoneReport
+pub fn donglora_read_tx_done(run: &[u8], body: &mut [u8]) -> TxDoneReport
     ensures value { result
         ≡ tx_done_report (opened_result (receive_answer Kinds.TxDone run.now (length body.old))) (decoded run.now) }
     ensures body_after { body.new ≡ receive_left Kinds.TxDone run.now body.old }
@@ -107,8 +102,7 @@ pub extern "C" fn donglora_read_tx_done(run: &[u8], body: &mut [u8]) -> TxDoneRe
 }
 
 // The time on air of a packet, stored in us.
-#[unsafe(no_mangle)]
-pub extern "C" fn donglora_airtime(air: Transmission, us: &mut u32) -> u8
+pub fn donglora_airtime(air: Transmission, us: &mut u32) -> u8
     ensures value { result ≡ (airtime air).number }
     ensures us_after { us.new ≡ value_or (airtime air).value us.old }
 {

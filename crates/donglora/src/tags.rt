@@ -7,23 +7,16 @@ ghost use Rattle.ffi_ledger.specs.Calls.{open_call, answer_call};
 use ledger::{Ledger, Report};
 
 // A ledger with no open command, whose first tag is 1.
-#[unsafe(no_mangle)]
-pub extern "C" fn donglora_ledger_new(ledger: &mut Ledger)
+pub fn donglora_ledger_new(ledger: &mut Ledger)
     ensures { ledger.new ≡ new_ledger }
 {
     *ledger = ledger::new();
 }
 
 // Opens a command, and stores its tag and its line.
-#[unsafe(no_mangle)]
-pub extern "C" fn donglora_ledger_open(
-    ledger: &mut Ledger,
-    command: u8,
-    tag: &mut u16,
-    line: &mut u8,
-) -> u8
-    ensures { open_call ledger.entry.now command tag.old line.old
-        ≡ record { ledger = ledger.exit.now; tag = tag.new; line = line.new; number = result } }
+pub fn donglora_ledger_open(ledger: &mut Ledger, command: u8, tag: &mut u16, line: &mut u8) -> u8
+    ensures { open_call ledger.old command tag.old line.old
+        ≡ record { ledger = ledger.new; tag = tag.new; line = line.new; number = result } }
 {
     let a = ffi_ledger::open(*ledger, command, *tag, *line);
     *ledger = a.ledger;
@@ -33,9 +26,8 @@ pub extern "C" fn donglora_ledger_open(
 }
 
 // Takes an answer of the dongle, and tells which command it belongs to.
-#[unsafe(no_mangle)]
-pub extern "C" fn donglora_ledger_answer(ledger: &mut Ledger, kind: u8, tag: u16) -> Report
-    ensures { answer_call ledger.entry.now kind tag ≡ record { ledger = ledger.exit.now; report = result } }
+pub fn donglora_ledger_answer(ledger: &mut Ledger, kind: u8, tag: u16) -> Report
+    ensures { answer_call ledger.old kind tag ≡ record { ledger = ledger.new; report = result } }
 {
     let a = ffi_ledger::answer(*ledger, kind, tag);
     *ledger = a.ledger;
@@ -43,8 +35,7 @@ pub extern "C" fn donglora_ledger_answer(ledger: &mut Ledger, kind: u8, tag: u16
 }
 
 // A new connection: all lines are free, and the counter goes on.
-#[unsafe(no_mangle)]
-pub extern "C" fn donglora_ledger_connect(ledger: &mut Ledger)
+pub fn donglora_ledger_connect(ledger: &mut Ledger)
     ensures { ledger.new ≡ connected ledger.old }
 {
     *ledger = ledger::connect(*ledger);

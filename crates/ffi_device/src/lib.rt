@@ -1,5 +1,7 @@
 // Power-up, and the events of the host's side, for callers that keep the state in words: byte, tick,
 // disconnect, request.
+#![tactic(auto)]
+
 ghost use Rattle.std.specs.Prelude.{◌≡◌};
 ghost use Rattle.session.specs.Session.{tick_out, disconnect_out};
 ghost use Rattle.ffi_device.specs.Calls.{first_dongle, state_call, byte_call, request_call};

@@ -1,4 +1,6 @@
 // What a host calls, with answers of numbers alone: 01's number, a count or a struct of fields.
+#![tactic(auto)]
+
 ghost use Rattle.std.specs.Prelude.{◌≡◌, ◌≤◌, length};
 ghost use Rattle.status.specs.Numbers.{TAKEN};
 ghost use Rattle.status.specs.Result.{value_or};
@@ -75,7 +77,7 @@ pub fn write_command(kind: u8, tag: u16, payload: &[u8], dst: &mut [u8], written
 
 // What a frame says of its message, for C: struct donglora_message.
 #[repr(C)]
-#[derive(Drop)]
+#[derive(Clone, Copy)]
 pub struct MessageReport {
     pub number: u8,
     pub kind: u8,
@@ -146,7 +148,7 @@ pub fn read_answer(command: u8, run: &[u8], body: &mut [u8]) -> MessageReport
 
 // What an RX says, for C: struct donglora_rx.
 #[repr(C)]
-#[derive(Drop)]
+#[derive(Clone, Copy)]
 pub struct RxReport {
     pub number: u8,
     pub rssi: i16,
@@ -205,7 +207,7 @@ fn rx_report(payload: &[u8]) -> RxReport
 
 // What a TX_DONE says, for C: struct donglora_tx_done.
 #[repr(C)]
-#[derive(Drop)]
+#[derive(Clone, Copy)]
 pub struct TxDoneReport {
     pub number: u8,
     pub tag: u16,

@@ -1,5 +1,5 @@
 -- What a C program can rely on: 02 §2, over every list of calls of `donglora_ledger_open`, `donglora_ledger_answer` and `donglora_ledger_connect`, each lent
--- what the last one left, from what `donglora_ledger_new` writes. Their contracts cite `openCall`, `answerCall`, `connected` and `newLedger`.
+-- what the last one left, from what `donglora_ledger_new` writes. Their contracts cite `open_call`, `answer_call`, `connected` and `new_ledger`.
 -- Assumes nothing.
 use Rattle.std.specs.Prelude.{◌≡◌, List, [], ◌∷◌, ℕ}
 use Rattle.status.specs.Result.{Result, value_or}

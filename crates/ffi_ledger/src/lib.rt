@@ -1,5 +1,7 @@
 // What a C program calls of the ledger, by value: with numbers for answers, and with what stood in the caller's memory
 // where nothing is written there.
+#![tactic(auto)]
+
 ghost use Rattle.std.specs.Prelude.{◌≡◌};
 ghost use Rattle.ledger.specs.Calls.{verdict_report};
 ghost use Rattle.ffi_ledger.specs.Calls.{open_call, answer_call};
@@ -8,7 +10,7 @@ use ledger::{DongleTag, FITS, Ledger, NOBODYS, Opened, Report, UNEXPECTED, Verdi
 use status::{LEDGER, TAKEN, TYPE};
 
 // What opening a command leaves: the ledger, the caller's tag and line, and the number.
-#[derive(Drop)]
+#[derive(Clone, Copy)]
 pub struct OpenCall {
     pub ledger: Ledger,
     pub tag: u16,
@@ -79,7 +81,7 @@ fn report_of(verdict: Verdict) -> Report
 }
 
 // What an answer leaves: the ledger, and the report.
-#[derive(Drop)]
+#[derive(Clone, Copy)]
 pub struct AnswerCall {
     pub ledger: Ledger,
     pub report: Report,

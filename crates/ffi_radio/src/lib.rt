@@ -1,5 +1,7 @@
 // The events of the radio's side, for callers that keep the state in words: its outcomes, and a packet
 // that was received.
+#![tactic(auto)]
+
 ghost use Rattle.std.specs.Prelude.{◌≡◌};
 ghost use Rattle.outcome.specs.Outcomes.{clear_out, busy_out, sent_out, fault_out, configured_out};
 ghost use Rattle.inbox.specs.Packets.{received_packet};
@@ -12,7 +14,7 @@ use slot::COMMANDS;
 
 // The status of a received packet, for C: struct donglora_packet_status.
 #[repr(C)]
-#[derive(Drop)]
+#[derive(Clone, Copy)]
 pub struct PacketReport {
     pub rssi: i16,
     pub snr: i16,

@@ -1,1 +1,2 @@
 // The dongle that C calls is the device of the definition: theorems.
+#![tactic(auto)]

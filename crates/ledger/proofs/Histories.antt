@@ -13,11 +13,11 @@ use Rattle.kind.specs.Kinds.{ERR, RX}
 use Rattle.ledger.specs.declared.Ledger.{Ledger}
 use Rattle.ledger.specs.declared.Verdict.TheVariants as J
 use Rattle.ledger.specs.Digits.{digit}
-use Rattle.ledger.specs.Lines.{line_max, line_at, owner, wrapped}
+use Rattle.ledger.specs.Lines.{line_max, line_at, wrapped}
 use Rattle.ledger.specs.Calls.{new_ledger, open_answer, opened_result}
 use Rattle.ledger.specs.Calls.{verdict_report, connected}
 use Rattle.ledger.specs.History.{Fits, OwnsIn, NextTag, LowestLine, OpenRight, TagOpen, LineOpen, Distinct}
-use Rattle.ledger.specs.History.{Call, opens, hears, connects, report, nothing, replies, OpenCommand, Observer, nobody, knows_nothing}
+use Rattle.ledger.specs.History.{Call, opens, hears, connects, report, replies, OpenCommand, Observer, nobody, knows_nothing}
 use Rattle.ledger.specs.History.{Effect, ignored, accepts, closes, effect, report_of, expected, TagKnown, LineKnown, Foreseen}
 use Rattle.ledger.specs.History.{Seen, seen, called, history, after}
 use Rattle.ledger.proofs.Changes.{owner_in}

@@ -4,7 +4,7 @@ use mathlib.Core.Path.{◌≡◌, refl, sym, ap, ◌∙◌, subst}
 use mathlib.Core.Bool.{Bool, true, false, cond, not, ◌&&◌, ◌||◌, true≢false, and-false}
 use mathlib.Core.Logic.{◌⊎◌, inl, inr}
 use mathlib.Core.Option.{Option, none, some}
-use Prim.Native.Nat.{ℕ, zero, ◌+◌, ◌-◌, ◌<◌}
+use Prim.Native.Nat.{ℕ, ◌+◌, ◌-◌, ◌<◌}
 use native.Mathlib.Omega.{arith}
 use lib.Count.{ones, ones-ones}
 use lib.Dec.{eqb}
@@ -18,7 +18,7 @@ use Rattle.ledger.specs.declared.Opened.TheVariants as O
 use Rattle.ledger.specs.declared.Verdict.{Verdict}
 use Rattle.ledger.specs.declared.Verdict.TheVariants as J
 use Rattle.ledger.specs.Digits.{digit}
-use Rattle.ledger.specs.Lines.{line_max, line_at, owner, accepted, awaits}
+use Rattle.ledger.specs.Lines.{line_max, line_at, accepted, awaits}
 use Rattle.ledger.specs.Calls.{fresh_tag, lowest_free, opened_result, open_left, taken}
 use Rattle.ledger.specs.Calls.{verdict_at, verdict_by, verdict_of, freed, marked, answer_left}
 use Rattle.ledger.specs.History.{Fits, OwnsIn, NextTag, LowestLine, TagOpen, LineOpen, Distinct}

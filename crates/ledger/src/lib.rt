@@ -1,5 +1,7 @@
 // The host's ledger of open tags: 02 §2. A host has its tags from here, and learns here which command
 // an answer belongs to. The ledger is a value: each call takes one and gives back the next.
+#![tactic(auto)]
+
 ghost use Rattle.std.specs.Prelude.{◌≡◌, ◌+◌, ◌-◌, ◌^◌, ◌<◌, get_or};
 ghost use Rattle.std.specs.Int.Count.{ones};
 ghost use Rattle.ledger.specs.Digits.{digit, lowest};
@@ -14,13 +16,13 @@ pub const LINES: usize = 16;
 
 // A tag that the dongle sees.
 #[repr(C)]
-#[derive(Drop)]
+#[derive(Clone, Copy)]
 pub struct DongleTag(pub u16);
 
 // An open command: its tag, its type, and 1 where it is a TX that has its OK. Of a free line this says
 // nothing.
 #[repr(C)]
-#[derive(Drop)]
+#[derive(Clone, Copy)]
 pub struct Line {
     pub tag: DongleTag,
     pub command: u8,
@@ -29,7 +31,7 @@ pub struct Line {
 
 // The ledger: where the next tag is looked for, which lines are open (line n is bit n), and the lines.
 #[repr(C)]
-#[derive(Drop)]
+#[derive(Clone, Copy)]
 pub struct Ledger {
     pub counter: u16,
     pub used: u16,
@@ -37,7 +39,7 @@ pub struct Ledger {
 }
 
 // What opening a command answers.
-#[derive(Drop)]
+#[derive(Clone, Copy)]
 pub enum Opened {
     // All lines are open: LEDGER.
     Full,
@@ -48,14 +50,14 @@ pub enum Opened {
 }
 
 // The ledger after a command, and what came back.
-#[derive(Drop)]
+#[derive(Clone, Copy)]
 pub struct Opening {
     pub ledger: Ledger,
     pub opened: Opened,
 }
 
 // What an answer of the dongle is to the ledger.
-#[derive(Drop)]
+#[derive(Clone, Copy)]
 pub enum Verdict {
     // No open command waits for it.
     Unexpected,
@@ -66,14 +68,14 @@ pub enum Verdict {
 }
 
 // The ledger after an answer, and what came back.
-#[derive(Drop)]
+#[derive(Clone, Copy)]
 pub struct Answering {
     pub ledger: Ledger,
     pub verdict: Verdict,
 }
 
 // The line that a search found.
-#[derive(Drop)]
+#[derive(Clone, Copy)]
 pub enum Found {
     Nothing,
     Line(u8),
@@ -348,7 +350,7 @@ pub const FITS: u8 = 2;
 
 // A verdict in numbers, for C: struct donglora_report. Where the answer does not fit, the other fields are 0.
 #[repr(C)]
-#[derive(Drop)]
+#[derive(Clone, Copy)]
 pub struct Report {
     pub verdict: u8,
     pub command: u8,

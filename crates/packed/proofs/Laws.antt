@@ -42,17 +42,12 @@ radio-small Configuring = omega arith
 
 -- ---- an order without values
 
-abbrev no-configure : List ℕ
-no-configure = 0 ∷ 1 ∷ 3 ∷ 4 ∷ []
-
-abbrev no-transmit : List ℕ
-no-transmit = 0 ∷ 1 ∷ 2 ∷ 4 ∷ []
-
-pub no-values : (o : Order) → OneOf no-configure (tag_of the_type o) → OneOf no-transmit (tag_of the_type o) → order_values o ≡ 0 ∷ 0 ∷ 0 ∷ 0 ∷ []
+pub no-values : (o : Order) → ((at n : ℕ) (l : Bool) → o ≡ Configure at n l → ⊥) → ((at n : ℕ) (l : Bool) → o ≡ Transmit at n l → ⊥) → order_values o ≡ 0 ∷
+    0 ∷ 0 ∷ 0 ∷ []
 no-values Nothing k l = refl
 no-values Standby k l = refl
-no-values (Configure at n ldro) k l = absurd (miss no-configure 2 tt k)
-no-values (Transmit at n listen) k l = absurd (miss no-transmit 3 tt l)
+no-values (Configure at n ldro) k l = absurd (k at n ldro refl)
+no-values (Transmit at n listen) k l = absurd (l at n listen refl)
 no-values Receive k l = refl
 
 -- ---- back from words

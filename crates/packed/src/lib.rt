@@ -1,4 +1,6 @@
 // The device's state and its answers as words of 64 bits, for callers that know no enums.
+#![tactic(auto)]
+
 ghost use Rattle.std.specs.Prelude.{◌≡◌, ◌+◌, ◌*◌, ◌%◌};
 ghost use Rattle.device.specs.Messages.{yes};
 ghost use Rattle.control.specs.Control.{order_number, reply_numbers};

@@ -1,0 +1,24 @@
+-- What was received, field by field.
+-- Assumes nothing.
+use mathlib.Core.Path.{sym, ap, ◌∙◌}
+use Rattle.frame.specs.Reading.{opened_result}
+use Rattle.ffi_host.specs.Reports.{message_report}
+use Rattle.ffi_host.proofs.read_answer.Goals as goal
+
+pub returns-in-Body : goal.returns-in-Body
+unfolding message_report
+returns-in-Body c =
+    let name_of = c.name_of-name in
+    let receive = c.receive in
+    let n = name_of.ensures in
+    let p = rw n at receive.ensures in
+    record { value = ap message_report (sym (ap opened_result c.in-Body.is) ∙ p.result_value); body_after = p.dst_after }
+
+pub returns-in-Refused : goal.returns-in-Refused
+unfolding message_report
+returns-in-Refused c =
+    let name_of = c.name_of-name in
+    let receive = c.receive in
+    let n = name_of.ensures in
+    let p = rw n at receive.ensures in
+    record { value = rw c.refusal_number.ensures (ap message_report (sym (ap opened_result c.in-Refused.is) ∙ p.result_value)); body_after = p.dst_after }

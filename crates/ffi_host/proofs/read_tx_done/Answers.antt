@@ -1,0 +1,61 @@
+-- What was received, and what its payload says: a message of this type has its fields.
+-- Assumes nothing.
+use mathlib.Core.Path.{sym, ap, ◌∙◌}
+use native.Mathlib.Omega.{arith}
+use lib.ListN.{length, length-take, length-drop}
+use Rattle.status.specs.Result.{Result}
+use Rattle.cobs.specs.Decoding.{decoded}
+use Rattle.scalar.specs.Scalars.{number}
+use Rattle.frame.specs.Reading.{Head, opened_result}
+use Rattle.frame.proofs.Laws.{opens-facts}
+use Rattle.wellformed.specs.declared.Kinds.TheVariants as K
+use Rattle.reader.proofs.Steps.{received, was-open, payload-there}
+use Rattle.reader.proofs.Kept.{tx-done-kept}
+use Rattle.ffi_host.specs.Reports.{tx_done_report, tx_done_fields}
+use Rattle.ffi_host.proofs.read_tx_done.Goals as goal
+
+pub overflow_add-len : goal.overflow_add-len
+overflow_add-len c =
+    let s = c.args in
+    let w = c.receive in
+    let e = received K.TxDone s.run.now s.body.now w.ensures.result_value c.in-Body.is in
+    let o = opens-facts s.run.now (length s.body.now) (was-open K.TxDone s.run.now s.body.now e) in
+    omega (arith, o.most)
+
+pub slice_bounds-tx_done_report-end : goal.slice_bounds-tx_done_report-end
+slice_bounds-tx_done_report-end c =
+    let s = c.args in
+    let w = c.receive in
+    let e = received K.TxDone s.run.now s.body.now w.ensures.result_value c.in-Body.is in
+    let o = opens-facts s.run.now (length s.body.now) (was-open K.TxDone s.run.now s.body.now e) in
+    omega (arith, o.long, o.inside, o.fits, w.auto.dst)
+
+pub tx_done_report-requires : goal.tx_done_report-requires
+tx_done_report-requires c =
+    let s = c.args in
+    let w = c.receive in
+    let e = received K.TxDone s.run.now s.body.now w.ensures.result_value c.in-Body.is in
+    let o = opens-facts s.run.now (length s.body.now) (was-open K.TxDone s.run.now s.body.now e) in
+    let h = tx-done-kept s.run.now s.body.now e in
+    rw (length-take, length-drop) (omega (arith, o.long, o.inside, o.fits, w.auto.dst))
+
+pub returns-in-Body : goal.returns-in-Body
+unfolding tx_done_report
+returns-in-Body c =
+    let s = c.args in
+    let w = c.receive in
+    let e = received K.TxDone s.run.now s.body.now w.ensures.result_value c.in-Body.is in
+    let o = opens-facts s.run.now (length s.body.now) (was-open K.TxDone s.run.now s.body.now e) in
+    let p = payload-there K.TxDone s.run.now s.body.now e in
+    record { value = rw e (rw (w.ensures.dst_after, p) at c.tx_done_report.ensures); body_after = w.ensures.dst_after }
+
+pub returns-in-Refused : goal.returns-in-Refused
+unfolding tx_done_report tx_done_fields number
+returns-in-Refused c =
+    let receive = c.receive in
+    let b = decoded c.args.run.now in
+    let w = receive.ensures in
+    record {
+      value = rw c.refusal_number.ensures (ap (λ (x : Result Head). tx_done_report x b) (sym (ap opened_result c.in-Refused.is) ∙ w.result_value));
+      body_after = w.dst_after;
+    }
