@@ -5,6 +5,8 @@
 // b: 255 bytes that are not zero, and a disconnect     t: 999 ticks, and a PING
 // p: a PING                                            x: a TX with 255 bytes, and its sent
 // k: a packet of 255 bytes is taken                    d: it is taken and delivered
+#![tactic(auto)]
+
 ghost use Rattle.std.specs.Prelude.{◌≡◌, ◌<◌, length};
 
 use command::Command;
@@ -14,12 +16,15 @@ use inbox::{PACKETS, PacketStatus};
 use link::RUN_MAX;
 use modulation::{Lora, Modulation};
 use slot::COMMANDS;
+use std::io::Read;
 
+// The most bytes of the input.
+const INPUT: usize = 4096;
 // Bytes are counted modulo this.
 const MANY: usize = 1000000;
 
 // A state, and how many bytes the events have written.
-#[derive(Drop)]
+#[derive(Clone, Copy)]
 struct Count {
     device: Device,
     written: usize,
@@ -267,11 +272,12 @@ fn work(what: u8, n: usize) -> usize {
     c.written
 }
 
-fn main() {
-    let mut input = io::buffer();
-    let got = libc::read(0, &mut input);
-    let k = io::count(got, &input);
+fn main(rt: HostRuntime) {
+    let mut input = [0u8; INPUT];
+    let k = match rt.stdin().read(&mut input) {
+        Ok(n) => n,
+        Err(_) => 0,
+    };
     let n = work(input[0], number(&input[..k]));
-    io::print_decimal(1, n as u64);
-    io::write_all(1, b"\n");
+    println!(rt; "{n}").is_ok();
 }

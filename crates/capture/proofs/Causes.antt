@@ -33,7 +33,8 @@ unfolding open_body
 body-causes b = go (ltb (length b) overhead) (ltb body_max (length b)) (eqb (crc_of (covered_of b)) (check_of b))
   where
     go : (t u v : Bool)
-        → GoodOrBad (cond t (O.Refused R.Length) (cond u (O.Refused R.Length) (cond v (O.Body (kind_of b) (tag_of b) (length b - overhead)) (O.Refused R.Check))))
+        → GoodOrBad (cond t (O.Refused R.Length) (cond u (O.Refused R.Length)
+        (cond v (O.Body (kind_of b) (tag_of b) (length b - overhead)) (O.Refused R.Check))))
     go true u v = tt
     go false true v = tt
     go false false true = tt

@@ -1,4 +1,6 @@
 // The listing of a capture, piece by piece: 01 "Sheet of known values", its last part.
+#![tactic(auto)]
+
 ghost use Rattle.std.specs.Prelude.{◌≡◌, ◌+◌, ◌*◌, ◌≤◌, ◌<◌, ◌^◌, length};
 ghost use Rattle.buffer.specs.Lay.{lay};
 ghost use Rattle.cobs.specs.Answers.{encoded_max};
@@ -12,7 +14,7 @@ use status::Refusal;
 
 // Where a capture stands between two pieces. Of a run so many bytes are kept as a frame can have, and
 // a longer one is none.
-#[derive(Drop)]
+#[derive(Clone, Copy)]
 pub struct Stream {
     // The offset of the run's first byte.
     pub at: u64,

@@ -1,4 +1,6 @@
 // A line of a listing: 01 "Sheet of known values", its last part.
+#![tactic(auto)]
+
 ghost use Rattle.std.specs.Prelude.{◌≡◌, ◌+◌, ◌≤◌, length, take};
 ghost use Rattle.buffer.specs.Lay.{lay};
 ghost use Rattle.line.specs.Lines.{hex4, name, two_columns, last_column, line};
@@ -13,7 +15,7 @@ pub const LINE_MAX: usize = 58;
 const NAME_MAX: usize = 10;
 
 // The name of a type: n letters, and blanks.
-#[derive(Drop)]
+#[derive(Clone, Copy)]
 struct Named {
     letters: [u8; NAME_MAX],
     n: usize,

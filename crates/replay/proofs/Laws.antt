@@ -2,14 +2,14 @@
 -- Assumes nothing.
 use mathlib.Core.Path.{◌≡◌, refl}
 use mathlib.Core.Bool.{Bool, true, false, cond}
-use mathlib.Core.List.{List, [], ◌∷◌, ◌++◌}
+use mathlib.Core.List.{List, [], ◌∷◌}
 use Prim.Native.Nat.{ℕ, ◌+◌, ◌*◌, ◌≤◌}
 use native.Mathlib.Omega.{arith}
 use lib.ListN.{length, take, drop, length-append, length-take, length-drop}
 use Rattle.control.specs.declared.Reply.{Reply}
 use Rattle.control.specs.declared.Order.{Order}
 use Rattle.control.specs.declared.Order.TheVariants as O
-use Rattle.text.specs.Text.{text, decimal, hex}
+use Rattle.text.specs.Text.{hex}
 use Rattle.text.proofs.Digits.{length-decimal}
 use Rattle.trace.specs.Traces.{plain, flag, order_text, bytes_text, number_column, trace_line, event_text, count_line}
 

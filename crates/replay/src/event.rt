@@ -11,7 +11,7 @@ use slot::COMMANDS;
 pub(crate) const ROOM_MAX: usize = 4096;
 
 // Where a replay stands: the device, how many events there were, and how much output is lent.
-#[derive(Drop)]
+#[derive(Clone, Copy)]
 pub(crate) struct Replay {
     pub(crate) device: Device,
     pub(crate) events: u64,
@@ -45,6 +45,7 @@ fn lent(out: &mut [u8], room: usize) -> &mut [u8] {
 
 // An event is run, and its answer is noted; bytes are those of a packet.
 fn step(
+    rt: &(impl Print + Eprint),
     s: Replay,
     e: Event,
     bytes: &[u8],
@@ -55,7 +56,7 @@ fn step(
 ) -> Replay {
     let d = s.device;
     let a = machine::step(d, e, bytes, run, commands, packets, lent(out, s.room));
-    print::note(s.events, a, commands, out);
+    print::note(rt, s.events, a, commands, out);
     let device = a.device;
     Replay {
         device,
@@ -156,6 +157,7 @@ fn roomed(s: Replay, item: Item) -> Replay {
 
 // Runs the events of a line; memory has its bytes.
 pub(crate) fn run(
+    rt: &(impl Print + Eprint),
     s: Replay,
     item: Item,
     memory: &[u8],
@@ -171,7 +173,7 @@ pub(crate) fn run(
     while i < n {
         let e = event_at(item, all, i);
         i += 1;
-        t = step(t, e, all, run, commands, packets, out);
+        t = step(rt, t, e, all, run, commands, packets, out);
     }
     t
 }

@@ -1,16 +1,21 @@
 // Replays scripts of device events, and writes the trace of the answers: from standard input, or from
 // the files that the arguments name, each from power-up on, where - is standard input.
+#![tactic(auto)]
+
 ghost use Rattle.std.specs.Prelude.{◌≡◌, length};
 
 mod event;
 mod print;
 
-use crate::event::Replay;
+use crate::event::{ROOM_MAX, Replay};
 use inbox::PACKETS;
-use libc::{STDERR_FILENO, STDIN_FILENO};
 use link::RUN_MAX;
 use script::Item;
 use slot::COMMANDS;
+use std::env::{Env, FillError};
+use std::fs::File;
+use std::io::{Read, Stdin};
+use std::{io, str};
 
 // The longest line that is kept, where blanks after a blank and a comment's text do not count. A
 // longer one is a bad line.
@@ -19,11 +24,20 @@ const SCRIPT_LINE: usize = 600000;
 const LINE_BYTES: usize = 200000;
 // The longest name of a script.
 const SCRIPT_NAME: usize = 4095;
+// The most bytes of one read.
+const PIECE: usize = 65536;
 // So many pieces are read at most. No script has as many: a proved loop has to end.
 const PIECES: u64 = 1 << 62;
 
-// Where the reading of a script stands.
+// Where a script is read from.
 #[derive(Drop)]
+enum Source {
+    Stdin(Stdin),
+    File(File),
+}
+
+// Where the reading of a script stands.
+#[derive(Clone, Copy)]
 struct Reading {
     replay: Replay,
     // How many bytes of the line are kept, and whether it is too long.
@@ -36,7 +50,7 @@ struct Reading {
 }
 
 // What one turn of the loop comes to.
-#[derive(Drop)]
+#[derive(Clone, Copy)]
 enum Next {
     // There may be more to read.
     More(Reading),
@@ -115,6 +129,7 @@ fn item_of(s: Reading, line: &[u8], bytes: &mut [u8]) -> Item {
 
 // A line has ended: its events are run, or it is bad and ends the run.
 fn end_line(
+    rt: &(impl Print + Eprint),
     s: Reading,
     line: &[u8],
     bytes: &mut [u8],
@@ -127,7 +142,7 @@ fn end_line(
     let lines = event::more(s.lines);
     let item = item_of(s, line, bytes);
     if let Item::Bad = item {
-        print::bad_line(lines);
+        print::bad_line(rt, lines);
         return Reading {
             replay: was,
             len: 0,
@@ -136,7 +151,7 @@ fn end_line(
             ended: true,
         };
     }
-    let replay = event::run(was, item, bytes, run, commands, packets, out);
+    let replay = event::run(rt, was, item, bytes, run, commands, packets, out);
     Reading {
         replay,
         len: 0,
@@ -148,6 +163,7 @@ fn end_line(
 
 // A byte of the script.
 fn byte(
+    rt: &(impl Print + Eprint),
     s: Reading,
     b: u8,
     line: &mut [u8],
@@ -161,13 +177,14 @@ fn byte(
         return s;
     }
     if b == b'\n' {
-        return end_line(s, line, bytes, run, commands, packets, out);
+        return end_line(rt, s, line, bytes, run, commands, packets, out);
     }
     keep(s, b, line)
 }
 
 // A piece of the script.
 fn feed(
+    rt: &(impl Print + Eprint),
     s: Reading,
     piece: &[u8],
     line: &mut [u8],
@@ -182,22 +199,30 @@ fn feed(
     while i < piece.len() {
         let b = piece[i];
         i += 1;
-        t = byte(t, b, line, bytes, run, commands, packets, out);
+        t = byte(rt, t, b, line, bytes, run, commands, packets, out);
     }
     t
 }
 
 // The next piece: how many bytes of it there are, and 0 at the end.
-fn read(fd: i32, piece: &mut [u8]) -> usize {
-    let got = libc::read(fd, piece);
-    if got < 0 {
-        io::write_all(STDERR_FILENO, b"replay: read failed\n");
+fn read(rt: &impl Eprint, source: &mut Source, piece: &mut [u8]) -> usize {
+    let got = match source {
+        Source::Stdin(stdin) => stdin.read(piece),
+        Source::File(file) => file.read(piece),
+    };
+    match got {
+        Ok(n) => n,
+        Err(_) => {
+            eprint!(rt; "replay: read failed\n").is_ok();
+            0
+        }
     }
-    io::count(got, piece)
 }
 
 // A piece was read, or the script has ended.
 fn turn(
+    rt: &(impl Print + Eprint),
+    source: &mut Source,
     s: Reading,
     line: &mut [u8],
     bytes: &mut [u8],
@@ -206,13 +231,13 @@ fn turn(
     packets: &mut [u8; PACKETS],
     out: &mut [u8],
     piece: &mut [u8],
-    fd: i32,
 ) -> Next {
-    let n = read(fd, piece);
+    let n = read(rt, source, piece);
     if n == 0 {
         return Next::Done(s);
     }
     let t = feed(
+        rt,
         s,
         buffer::part(piece, 0, n),
         line,
@@ -227,7 +252,8 @@ fn turn(
 
 // The whole script.
 fn replay(
-    fd: i32,
+    rt: &(impl Print + Eprint),
+    source: &mut Source,
     line: &mut [u8],
     bytes: &mut [u8],
     run: &mut [u8; RUN_MAX],
@@ -240,7 +266,9 @@ fn replay(
     let mut i: u64 = 0;
     while i < PIECES {
         i += 1;
-        match turn(s, line, bytes, run, commands, packets, out, piece, fd) {
+        match turn(
+            rt, source, s, line, bytes, run, commands, packets, out, piece,
+        ) {
             Next::More(t) => {
                 s = t;
             }
@@ -254,6 +282,7 @@ fn replay(
 
 // The last line, if no line end has ended it.
 fn end(
+    rt: &(impl Print + Eprint),
     s: Reading,
     line: &[u8],
     bytes: &mut [u8],
@@ -265,12 +294,13 @@ fn end(
     if s.ended | (s.len == 0) {
         return s;
     }
-    end_line(s, line, bytes, run, commands, packets, out)
+    end_line(rt, s, line, bytes, run, commands, packets, out)
 }
 
-// Replays the script that a descriptor has, from power-up on.
+// Replays the script that a source has, from power-up on.
 fn script(
-    fd: i32,
+    rt: &(impl Print + Eprint),
+    source: &mut Source,
     line: &mut [u8],
     bytes: &mut [u8],
     run: &mut [u8; RUN_MAX],
@@ -279,42 +309,82 @@ fn script(
     out: &mut [u8],
     piece: &mut [u8],
 ) {
-    let s = replay(fd, line, bytes, run, commands, packets, out, piece);
-    let t = end(s, line, bytes, run, commands, packets, out);
+    let s = replay(rt, source, line, bytes, run, commands, packets, out, piece);
+    let t = end(rt, s, line, bytes, run, commands, packets, out);
     let replay = t.replay;
-    print::events(replay.events);
+    print::events(rt, replay.events);
 }
 
-// The descriptor of the script with this name, or -1.
-fn open(name: &[u8]) -> i32 {
-    if name.len() == 1 {
-        if name[0] == b'-' {
-            return STDIN_FILENO;
+// The file with this name. A name that is no text names none.
+fn named(rt: &HostRuntime, name: &[u8]) -> io::Result<File> {
+    match str::from_utf8(name) {
+        Ok(path) => File::open(rt, path),
+        Err(_) => Err(io::Error::from(io::ErrorKind::InvalidFilename)),
+    }
+}
+
+// Writes which file could not be opened, and why.
+fn fail(rt: &HostRuntime, name: &[u8], e: io::Error) {
+    let to = rt.stderr();
+    to.write_all(name).is_ok();
+    match format!(in rt.alloc(); "{e}") {
+        Ok(text) => {
+            let what = without_number(text.as_str());
+            print!(to; ": {what}\n").is_ok();
+        }
+        Err(_) => {
+            print!(to; ": {e}\n").is_ok();
         }
     }
-    let fd = os::open_read(name);
-    if fd < 0 {
-        os::fail(name);
-    }
-    fd
 }
 
-// The descriptor of the script that argument i names, or -1.
-fn argument(i: usize) -> i32 {
+// What the system says of an error, without the number that std puts after it.
+fn without_number(text: &str) -> &str {
+    match text.split_once(" (os error ") {
+        Some((what, _)) => what,
+        None => text,
+    }
+}
+
+// The script with this name, if it can be opened.
+fn open(rt: &HostRuntime, name: &[u8]) -> Option<Source> {
+    if name.len() == 1 {
+        if name[0] == b'-' {
+            return Some(Source::Stdin(rt.stdin()));
+        }
+    }
+    match named(rt, name) {
+        Ok(file) => Some(Source::File(file)),
+        Err(e) => {
+            fail(rt, name, e);
+            None
+        }
+    }
+}
+
+// How many arguments there are, with the program's own name.
+fn arg_count(rt: &impl Env) -> usize {
+    for i in 0..usize::MAX {
+        if let Err(FillError::NotPresent) = rt.arg(i, &mut []) {
+            return i;
+        }
+    }
+    usize::MAX
+}
+
+// The script that argument i names, if it can be opened.
+fn argument(rt: &HostRuntime, i: usize) -> Option<Source> {
     let mut name = [0u8; SCRIPT_NAME];
-    let n = os::arg(i, &mut name);
-    open(buffer::part(&name, 0, n))
+    let n = rt.arg(i, &mut name).unwrap_or(0);
+    open(rt, buffer::part(&name, 0, n))
 }
 
 // A script has been replayed: its file is closed.
-fn close(fd: i32) {
-    if fd != STDIN_FILENO {
-        libc::close(fd);
-    }
-}
+fn close(_source: Source) {}
 
 // Replays the scripts that the arguments name, one after the other.
 fn scripts(
+    rt: &HostRuntime,
     line: &mut [u8],
     bytes: &mut [u8],
     run: &mut [u8; RUN_MAX],
@@ -323,29 +393,40 @@ fn scripts(
     out: &mut [u8],
     piece: &mut [u8],
 ) {
-    let n = os::arg_count();
+    let n = arg_count(rt);
     let mut i = 1;
     while i < n {
-        let fd = argument(i);
+        let found = argument(rt, i);
         i += 1;
-        if 0 <= fd {
-            script(fd, line, bytes, run, commands, packets, out, piece);
-            close(fd);
+        if let Some(mut source) = found {
+            script(
+                rt,
+                &mut source,
+                line,
+                bytes,
+                run,
+                commands,
+                packets,
+                out,
+                piece,
+            );
+            close(source);
         }
     }
 }
 
-fn main() {
+fn main(rt: HostRuntime) {
     let mut line = empty_line();
     let mut bytes = empty_bytes();
     let mut run = [0u8; RUN_MAX];
     let mut commands = [0u8; COMMANDS];
     let mut packets = [0u8; PACKETS];
-    let mut out = io::buffer();
-    let mut piece = io::large_buffer();
-    if os::arg_count() < 2 {
+    let mut out = [0u8; ROOM_MAX];
+    let mut piece = [0u8; PIECE];
+    if arg_count(&rt) < 2 {
         script(
-            STDIN_FILENO,
+            &rt,
+            &mut Source::Stdin(rt.stdin()),
             &mut line,
             &mut bytes,
             &mut run,
@@ -357,6 +438,7 @@ fn main() {
         return;
     }
     scripts(
+        &rt,
         &mut line,
         &mut bytes,
         &mut run,

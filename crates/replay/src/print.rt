@@ -1,7 +1,6 @@
 // The trace, line by line. What a line has is the crate trace's.
 use crate::event::ROOM_MAX;
 use control::Reply;
-use libc::{STDERR_FILENO, STDOUT_FILENO};
 use slot::COMMANDS;
 
 // The longest line: two numbers, an order with all of the memory of commands in hexadecimal, so much
@@ -11,15 +10,21 @@ const TRACE_LINE: usize = 17700;
 const LAST: usize = 32;
 
 // Writes the first n bytes of text.
-fn flush(text: &[u8], n: usize) {
-    if io::write_all(STDOUT_FILENO, buffer::part(text, 0, n)) {
+fn flush(rt: &(impl Print + Eprint), text: &[u8], n: usize) {
+    if rt.write_all(buffer::part(text, 0, n)).is_ok() {
         return;
     }
-    io::write_all(STDERR_FILENO, b"replay: write failed\n");
+    eprint!(rt; "replay: write failed\n").is_ok();
 }
 
 // Writes the line of an event, unless its answer is plain.
-pub(crate) fn note(index: u64, a: Reply, commands: &[u8; COMMANDS], out: &[u8]) {
+pub(crate) fn note(
+    rt: &(impl Print + Eprint),
+    index: u64,
+    a: Reply,
+    commands: &[u8; COMMANDS],
+    out: &[u8],
+) {
     if trace::is_plain(a) {
         return;
     }
@@ -32,19 +37,19 @@ pub(crate) fn note(index: u64, a: Reply, commands: &[u8; COMMANDS], out: &[u8]) 
         &mut text,
         0,
     );
-    flush(&text, n);
+    flush(rt, &text, n);
 }
 
 // Writes that a line of the script is bad.
-pub(crate) fn bad_line(n: u64) {
+pub(crate) fn bad_line(rt: &(impl Print + Eprint), n: u64) {
     let mut text = [0u8; LAST];
     let k = trace::bad_line(n, &mut text, 0);
-    flush(&text, k);
+    flush(rt, &text, k);
 }
 
 // Writes how many events there were.
-pub(crate) fn events(n: u64) {
+pub(crate) fn events(rt: &(impl Print + Eprint), n: u64) {
     let mut text = [0u8; LAST];
     let k = trace::events(n, &mut text, 0);
-    flush(&text, k);
+    flush(rt, &text, k);
 }

@@ -13,7 +13,7 @@ use lib.Seq.{drop-drop}
 use Rattle.buffer.proofs.Laws.{next, no_more}
 use Rattle.buffer.proofs.Deciding.{same as same_number}
 use Rattle.script.specs.Items.{any_words}
-use Rattle.script.specs.Words.{blank, word_so_far, words_from, words, word, others, lead, span, used, same}
+use Rattle.script.specs.Words.{blank, words_from, words, word, others, lead, span, used, same}
 
 -- ---- one byte more of a loop
 

@@ -9,7 +9,7 @@ use crate::number::Number;
 use crate::{number, word};
 
 // What a line of a script says.
-#[derive(Drop)]
+#[derive(Clone, Copy)]
 pub enum Item {
     // Nothing: it is blank, or a comment.
     Nothing,
@@ -41,7 +41,7 @@ pub enum Item {
 }
 
 // What a packet's line has before its bytes. Signed numbers are in two's complement.
-#[derive(Drop)]
+#[derive(Clone, Copy)]
 enum Head {
     Good {
         rssi: u16,
@@ -54,7 +54,7 @@ enum Head {
 }
 
 // How many bytes some words are.
-#[derive(Drop)]
+#[derive(Clone, Copy)]
 enum Bytes {
     Count(usize),
     Bad,

@@ -1,4 +1,6 @@
 // The script of the program replay: a line is read.
+#![tactic(auto)]
+
 mod item;
 mod number;
 mod word;

@@ -3,7 +3,7 @@ ghost use Rattle.std.specs.Prelude.{◌≡◌, ◌+◌, ◌<◌, ◌≤◌};
 ghost use Rattle.script.specs.Numbers.{between, decimal_in, signed_in, nibble, byte_of};
 
 // What a word is worth.
-#[derive(Drop)]
+#[derive(Clone, Copy)]
 pub(crate) enum Number {
     Value(u64),
     // It is no number, or one that is too high.

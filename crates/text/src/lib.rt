@@ -1,5 +1,7 @@
 // Text in lent memory: each function writes from an index on, and answers where what it wrote ends.
 // Internal: callers prove that there is room.
+#![tactic(auto)]
+
 ghost use Rattle.std.specs.Prelude.{◌≡◌, ◌+◌, ◌≤◌, ◌<◌, length};
 ghost use Rattle.buffer.specs.Lay.{lay};
 ghost use Rattle.text.specs.Text.{digit, decimal, hex};

@@ -1,6 +1,6 @@
 -- A trace: a line for each event whose answer is not plain, and a last line.
 -- Assumes nothing.
-use Rattle.std.specs.Prelude.{ℕ, ◌≡◌, Bool, true, false, cond, List, [], ◌∷◌, ◌++◌, eqb, take, drop}
+use Rattle.std.specs.Prelude.{ℕ, Bool, true, false, cond, List, [], ◌∷◌, ◌++◌, eqb, take, drop}
 use Rattle.text.specs.Text.{text, decimal, hex}
 use Rattle.control.specs.declared.Reply.{Reply}
 use Rattle.control.specs.declared.Order.{Order}

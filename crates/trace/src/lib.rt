@@ -1,5 +1,7 @@
 // A line of a trace. Each function writes from an index on, and answers where what it wrote ends.
 // Internal: callers prove that there is room.
+#![tactic(auto)]
+
 ghost use Rattle.std.specs.Prelude.{◌≡◌, ℕ, ◌+◌, ◌≤◌, List, ◌++◌, length, take, drop};
 ghost use Rattle.buffer.specs.Lay.{lay};
 ghost use Rattle.text.specs.Text.{hex};
@@ -11,7 +13,7 @@ use control::{Order, Reply};
 const START_MAX: usize = 12;
 
 // How an order is shown: n letters, and len bytes of the memory of commands from index at on.
-#[derive(Drop)]
+#[derive(Clone, Copy)]
 struct Shown {
     letters: [u8; START_MAX],
     n: usize,

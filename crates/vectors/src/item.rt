@@ -16,7 +16,7 @@ const HALF: u64 = 0x10000;
 const WORD: u64 = 0x100000000;
 
 // What a line is about.
-#[derive(Drop)]
+#[derive(Clone, Copy)]
 pub(crate) enum Item {
     // From the host to the device.
     Command(Command),

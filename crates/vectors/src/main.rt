@@ -1,5 +1,7 @@
 // P's appendix C: each frame is written from its fields, held to P's bytes, and read back. The table
 // of the frames is standard input, and what is written has a line for each, in P's order.
+#![tactic(auto)]
+
 mod case;
 mod fields;
 mod item;
@@ -8,9 +10,13 @@ mod table;
 mod text;
 
 use crate::case::Score;
+use std::io::Read;
+
+// The most bytes of a table.
+const TABLE: usize = 65536;
 
 // Takes the lines of a table one after the other.
-fn score(lines: &[u8]) -> Score {
+fn score(rt: &impl Print, lines: &[u8]) -> Score {
     let mut s = Score {
         frames: 0,
         same: 0,
@@ -19,7 +25,7 @@ fn score(lines: &[u8]) -> Score {
     let mut at = 0;
     while at < lines.len() {
         let end = table::find(lines, at, b'\n');
-        s = case::line(s, buffer::part(lines, at, end - at));
+        s = case::line(rt, s, buffer::part(lines, at, end - at));
         if end == lines.len() {
             return s;
         }
@@ -28,8 +34,24 @@ fn score(lines: &[u8]) -> Score {
     s
 }
 
-fn main() {
-    let mut memory = io::large_buffer();
-    let n = io::read_full(0, &mut memory);
-    case::print_score(score(buffer::part(&memory, 0, n)));
+// Reads until the memory is full, the input ends or a read fails, and answers how many bytes there are.
+fn read_full(input: &mut impl Read, memory: &mut [u8]) -> usize {
+    let mut done = 0;
+    while done < memory.len() {
+        let n = match input.read(&mut memory[done..]) {
+            Ok(n) => n,
+            Err(_) => 0,
+        };
+        if n == 0 {
+            return done;
+        }
+        done += n;
+    }
+    done
+}
+
+fn main(rt: HostRuntime) {
+    let mut memory = [0u8; TABLE];
+    let n = read_full(&mut rt.stdin(), &mut memory);
+    case::print_score(&rt, score(&rt, buffer::part(&memory, 0, n)));
 }

@@ -9,13 +9,23 @@ pub(crate) fn shows(text: &[u8], bytes: &[u8]) -> bool {
     check::same(buffer::part(&memory, 0, n), bytes)
 }
 
+// Writes bytes as they are, and answers whether it could.
+pub(crate) fn put(rt: &impl Print, bytes: &[u8]) -> bool {
+    rt.write_all(bytes).is_ok()
+}
+
+// Writes a number in decimal, and answers whether it could.
+pub(crate) fn decimal(rt: &impl Print, n: u64) -> bool {
+    print!(rt; "{n}").is_ok()
+}
+
 // Prints bytes, each after a blank.
-pub(crate) fn print(bytes: &[u8]) {
+pub(crate) fn print(rt: &impl Print, bytes: &[u8]) {
     let mut i = 0;
     while i < bytes.len() {
         let b = bytes[i];
         i += 1;
-        io::write_all(1, &[b' ', digit(b / 16), digit(b % 16)]);
+        put(rt, &[b' ', digit(b / 16), digit(b % 16)]);
     }
 }
 

@@ -1,0 +1,30 @@
+-- The bytes that are passed are counted, and those that are left are still to count.
+-- Assumes nothing.
+use mathlib.Core.Path.{sym, ◌∙◌}
+use native.Mathlib.Omega.{arith}
+use Rattle.buffer.proofs.Laws.{no_more}
+use Rattle.script.specs.Words.{span}
+use Rattle.script.proofs.Words.{span-on, span-stops}
+use Rattle.script.proofs.word.span.Goals as goal
+
+pub returns-then-is_blank : goal.returns-then-is_blank
+returns-then-is_blank c =
+    let loop = c.loop-i in
+    let loop-test = c.loop-i-test in
+    let is-blank = c.is_blank in
+    omega (arith, span-stops c.args.s.now loop.i loop-test.true (sym is-blank.ensures ∙ c.if-is_blank.true))
+
+pub loop-i-preserved : goal.loop-i-preserved
+loop-i-preserved c =
+    let loop = c.loop-i in
+    let loop-test = c.loop-i-test in
+    let is-blank = c.is_blank in
+    let on = span-on c.args.s.now loop.i loop-test.true (sym is-blank.ensures ∙ c.if-is_blank.false) in
+    (omega (arith, loop-test.true), omega (arith, on, loop.invariant.1))
+
+pub returns : goal.returns
+unfolding span
+returns c =
+    let loop = c.loop-i in
+    let e = no_more c.args.s.now loop.i (omega arith) in
+    omega (arith, rw e at loop.invariant.1)
