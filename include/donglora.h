@@ -2,7 +2,7 @@
  * donglora.h: DongLoRa for C and C++: frames and messages for a host, and the whole dongle for
  * firmware.
  *
- * Link with libdonglora.a of the target: on x86-64 that of `rt staticlib`, on a microcontroller that of
+ * Link with libdonglora.a of the target: on x86-64 that of tools/archive, on a microcontroller that of
  * tools/cross. The header is the same for all of them. Every function behind it is proved to do what is
  * said here, for every input: see README.md.
  *

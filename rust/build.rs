@@ -1,4 +1,4 @@
-//! Says where libdonglora.a is: in the folder that DONGLORA_LIB_DIR names, else where `rt staticlib`
+//! Says where libdonglora.a is: in the folder that DONGLORA_LIB_DIR names, else where tools/archive
 //! puts it.
 
 use std::env;

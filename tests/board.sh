@@ -1,8 +1,8 @@
 #!/usr/bin/env bash
 # Checks the library for a microcontroller, as tools/cross builds it, on an emulated board: the C tests of
 # the header, of the dongle, and, with fewer calls, of frames, of the ledger and of the time on air; the traces
-# of tests/replay.c, which must be those of the proved program on its scripts, and those of the library for this machine on
-# random ones; and the stack that each function takes. The board of the two targets for ARM has a Cortex-M4,
+# of tests/replay.c, which must be those of the proved program on its scripts, and those of the library for
+# this machine on random ones; and the stack that each function takes. The board of the two targets for ARM has a Cortex-M4,
 # which runs the code for a Cortex-M0 too.
 #
 # Usage: tests/board.sh BUILT TARGET: the folder with the program replay, to which all output goes, and

@@ -84,7 +84,7 @@ static struct {
     [READ_FRAME] = {"donglora_read_frame", BOUND(448, 480, 384), 0, 0},
     [LEDGER_NEW] = {"donglora_ledger_new", BOUND(32, 64, 32), 0, 0},
     [LEDGER_OPEN] = {"donglora_ledger_open", BOUND(160, 192, 160), 0, 0},
-    [LEDGER_ANSWER] = {"donglora_ledger_answer", BOUND(128, 160, 128), 0, 0},
+    [LEDGER_ANSWER] = {"donglora_ledger_answer", BOUND(192, 224, 192), 0, 0},
     [LEDGER_CONNECT] = {"donglora_ledger_connect", BOUND(32, 32, 32), 0, 0},
     [AIRTIME] = {"donglora_airtime", BOUND(128, 160, 96), 0, 0},
 };
