@@ -3,10 +3,11 @@
 use mathlib.Core.Path.{◌≡◌, refl, sym, ap, ◌∙◌, subst}
 use mathlib.Core.List.{List, [], ◌∷◌}
 use Prim.Native.Nat.{ℕ}
-use Rattle.status.specs.Result.{Result}
+use Rattle.status.specs.Result.{Result as Returned}
 use Rattle.ledger.specs.declared.Ledger.{Ledger}
+use Rattle.ledger.specs.declared.Place.{Place}
 use Rattle.ledger.specs.declared.Report.{Report}
-use Rattle.ledger.specs.Calls.{new_ledger, Place, open_answer, opened_result}
+use Rattle.ledger.specs.Calls.{new_ledger, open_answer, opened_result}
 use Rattle.ledger.specs.History.{opens, hears, Reply, place, report, nothing, leaves, Observer, knows_nothing, OpenRight, TagKnown, LineKnown, report_due}
 use Rattle.ledger.specs.History.{Distinct, seen, called, history, after}
 use Rattle.ledger.proofs.Histories.{distinct-tags, all-foreseen}
@@ -29,7 +30,7 @@ same_after : (cs : List CCall) → called_by new_ledger cs ≡ (after (as_calls 
 same_after cs = same-ledger cs new_ledger knows_nothing
 
 -- what a reply holds
-abbrev place_of : Reply → Result Place → Result Place
+abbrev place_of : Reply → Returned Place → Returned Place
 place_of (place r) other = r
 place_of (report r) other = other
 place_of nothing other = other

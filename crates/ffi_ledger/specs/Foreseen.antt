@@ -2,9 +2,10 @@
 -- what the last one left, from what `donglora_ledger_new` writes. Their contracts cite `open_call`, `answer_call`, `connected` and `new_ledger`.
 -- Assumes nothing.
 use Rattle.std.specs.Prelude.{◌≡◌, List, [], ◌∷◌, ℕ}
-use Rattle.status.specs.Result.{Result, value_or}
+use Rattle.status.specs.Result.{Result as Returned, value_or}
 use Rattle.ledger.specs.declared.Ledger.{Ledger}
-use Rattle.ledger.specs.Calls.{new_ledger, Place, connected}
+use Rattle.ledger.specs.declared.Place.{Place}
+use Rattle.ledger.specs.Calls.{new_ledger, connected}
 use Rattle.ledger.specs.History.{Call, opens, hears, connects, Observer, OpenRight, TagKnown, LineKnown, report_due, Distinct, after}
 use Rattle.ffi_ledger.specs.Calls.{open_call, answer_call}
 
@@ -39,11 +40,11 @@ knows cs = (after (as_calls cs)).observer
 
 -- what a command brings: its number, and the tag and the line or what stood there; as foreseen
 pub record Placed (k : Observer) (command tag line : ℕ) (l : Ledger) : Type 0 where
-  pub result : Result Place
+  pub result : Returned Place
   pub right : OpenRight k.count k.next (TagKnown k) (LineKnown k) command result
   pub number : (open_call l command tag line).number ≡ result.number
-  pub given : (open_call l command tag line).tag ≡ (value_or result.value (record { tag = tag; line = line })).tag
-  pub place : (open_call l command tag line).line ≡ (value_or result.value (record { tag = tag; line = line })).line
+  pub given : (open_call l command tag line).tag ≡ (value_or result.value (record { tag = record { 0 = tag }; line = line })).tag.0
+  pub place : (open_call l command tag line).line ≡ (value_or result.value (record { tag = record { 0 = tag }; line = line })).line
 
 -- after every list of calls
 pub record ForeseenInC (cs : List CCall) : Type 0 where

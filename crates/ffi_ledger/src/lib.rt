@@ -3,11 +3,10 @@
 #![tactic(auto)]
 
 ghost use Rattle.std.specs.Prelude.{◌≡◌};
-ghost use Rattle.ledger.specs.Calls.{verdict_report};
 ghost use Rattle.ffi_ledger.specs.Calls.{open_call, answer_call};
 
-use ledger::{DongleTag, FITS, Ledger, NOBODYS, Opened, Report, UNEXPECTED, Verdict};
-use status::{LEDGER, TAKEN, TYPE};
+use ledger::{DongleTag, Ledger, Report};
+use status::TAKEN;
 
 // What opening a command leaves: the ledger, the caller's tag and line, and the number.
 #[derive(Clone, Copy)]
@@ -19,64 +18,20 @@ pub struct OpenCall {
 }
 
 // Opens a command, where tag and line are what the caller's memory holds.
+#[tactic(auto, unfolding(crate::specs::Calls::open_call))]
 pub fn open(l: Ledger, command: u8, tag: u16, line: u8) -> OpenCall
     ensures { result ≡ open_call l command tag line }
 {
     let opening = ledger::open(l, command);
-    let ledger = opening.ledger;
-    let opened = opening.opened;
-    match opened {
-        Opened::Full => OpenCall {
-            ledger,
-            tag,
-            line,
-            number: LEDGER,
-        },
-        Opened::Type => OpenCall {
-            ledger,
-            tag,
-            line,
-            number: TYPE,
-        },
-        Opened::Line {
-            tag: given,
-            line: taken,
-        } => OpenCall {
-            ledger,
-            tag: given.0,
-            line: taken,
-            number: TAKEN,
-        },
-    }
-}
-
-// The numbers of a verdict, for C.
-fn report_of(verdict: Verdict) -> Report
-    ensures { result ≡ verdict_report verdict }
-{
-    match verdict {
-        Verdict::Unexpected => Report {
-            verdict: UNEXPECTED,
-            command: 0,
-            line: 0,
-            closed: 0,
-        },
-        Verdict::Nobody => Report {
-            verdict: NOBODYS,
-            command: 0,
-            line: 0,
-            closed: 0,
-        },
-        Verdict::Fits {
-            command,
-            line,
-            closed,
-        } => Report {
-            verdict: FITS,
-            command,
-            line,
-            closed: closed as u8,
-        },
+    let (tag, line, number) = match opening.opened {
+        Ok(place) => (place.tag.0, place.line, TAKEN),
+        Err(e) => (tag, line, e.into()),
+    };
+    OpenCall {
+        ledger: opening.ledger,
+        tag,
+        line,
+        number,
     }
 }
 
@@ -88,12 +43,13 @@ pub struct AnswerCall {
 }
 
 // Takes an answer of the dongle.
+#[tactic(auto, unfolding(crate::specs::Calls::answer_call))]
 pub fn answer(l: Ledger, kind: u8, tag: u16) -> AnswerCall
     ensures { result ≡ answer_call l kind tag }
 {
     let answering = ledger::answer(l, kind, DongleTag(tag));
-    let ledger = answering.ledger;
-    let verdict = answering.verdict;
-    let report = report_of(verdict);
-    AnswerCall { ledger, report }
+    AnswerCall {
+        ledger: answering.ledger,
+        report: answering.verdict.into(),
+    }
 }

@@ -1,6 +1,6 @@
 -- The ledger on calls by hand, computed: 02 §2.
 -- Assumes nothing.
-use mathlib.Core.Path.{◌≡◌, refl, sym, ap, ◌∙◌}
+use mathlib.Core.Path.{◌≡◌, refl, ap, ◌∙◌}
 use mathlib.Core.List.{List, [], ◌∷◌}
 use Prim.Native.Nat.{ℕ}
 use borrow.Author.Tests.{eq-eqb}
@@ -12,8 +12,8 @@ use Rattle.kind.specs.Kinds.{is_command, PING, TX, OK, ERR, RX, TX_DONE}
 use Rattle.ledger.specs.declared.Ledger.{Ledger}
 use Rattle.ledger.specs.Digits.{lowest}
 use Rattle.ledger.specs.Lines.{no_line, has_tag, owner_from, vacant, first_vacant, awaits}
-use Rattle.ledger.specs.Calls.{new_ledger, lowest_free, open_answer, opened_result, UNEXPECTED, NOBODYS, FITS, verdict_at, verdict_of}
-use Rattle.ledger.proofs.Openings.{fresh_of, answer-by}
+use Rattle.ledger.specs.Calls.{new_ledger, open_answer, opened_result, UNEXPECTED, NOBODYS, FITS, verdict_at, verdict_of}
+use Rattle.ledger.proofs.Openings.{answer-by}
 use Rattle.ledger.specs.History.{Call, opens, hears, connects, Reply, place, report, nothing, leaves, replies}
 
 -- what comes back of calls, one after another
@@ -22,7 +22,7 @@ answers l [] = []
 answers l (c ∷ cs) = replies l c ∷ answers (leaves l c) cs
 
 abbrev given : ℕ → ℕ → Reply
-given tag line = place (took record { tag = tag; line = line })
+given tag line = place (took record { tag = record { 0 = tag }; line = line })
 
 abbrev fits : ℕ → ℕ → ℕ → Reply
 fits command line closed = report record { verdict = FITS; command = command; line = line; closed = closed }
@@ -62,4 +62,4 @@ wrapping = refl
 pub refused : (l : Ledger) → (l.used ≡ 0xFFFF → opened_result (open_answer l 0) ≡ refused_with LEDGER)
     × (opened_result (open_answer new_ledger 0) ≡ refused_with TYPE)
 unfolding new_ledger open_answer ones ones_in is_command
-refused l = (λ e. ap opened_result (sym (answer-by l 0 (fresh_of l) (lowest_free l) (eq-eqb _ _ (ap ones e ∙ ones-ones 16)) refl refl refl)), refl)
+refused l = (λ e. ap opened_result (answer-by l 0 (eq-eqb _ _ (ap ones e ∙ ones-ones 16)) refl), refl)

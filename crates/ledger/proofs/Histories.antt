@@ -6,6 +6,7 @@ use mathlib.Core.Bool.{Bool, true, false, cond, ◌&&◌, ◌||◌}
 use mathlib.Core.List.{List, [], ◌∷◌}
 use mathlib.Core.Logic.{◌⊎◌, inl, inr}
 use mathlib.Core.Option.{Option, none, some, some-injective, none-ne-some}
+use Rattle.std.specs.Prelude.{Option as Owner, Some, None}
 use Prim.Native.Nat.{ℕ, ◌+◌, ◌<◌}
 use native.Mathlib.Omega.{arith}
 use lib.Dec.{eqb}
@@ -21,17 +22,16 @@ use Rattle.ledger.specs.History.{Call, opens, hears, connects, report, replies, 
 use Rattle.ledger.specs.History.{Effect, ignored, accepts, closes, effect, report_of, expected, TagKnown, LineKnown, Foreseen}
 use Rattle.ledger.specs.History.{Seen, seen, called, history, after}
 use Rattle.ledger.proofs.Changes.{owner_in}
-use Rattle.ledger.proofs.Owner.{only-owner}
-use Rattle.ledger.proofs.Verdicts.{owner_owns}
+use Rattle.ledger.proofs.Owner.{owner-owns, only-owner}
 use Rattle.ledger.proofs.Openings.{opens-right}
 use Rattle.ledger.proofs.Known.{command_at, known, Knows, verdict_from, verdict_known, hear-verdict, knows-opens, knows-hears, knows-none}
 
 -- ---- what comes back is foreseen
 
 -- what the observer knows of a tag, the ledger has in some line
-known-line : (l : Ledger) (r : Option ℕ) (c : OpenCommand) → known l r ≡ some c → (j : ℕ) × (r ≡ some j) × (command_at l j ≡ c)
-known-line l none c e = absurd (none-ne-some c e)
-known-line l (some j) c e = (j, refl, some-injective (command_at l j) c e)
+known-line : (l : Ledger) (r : Owner ℕ) (c : OpenCommand) → known l r ≡ some c → (j : ℕ) × (r ≡ Some j) × (command_at l j ≡ c)
+known-line l None c e = absurd (none-ne-some c e)
+known-line l (Some j) c e = (j, refl, some-injective (command_at l j) c e)
 
 module _ (l : Ledger) (k : Observer) (w : Knows l k) where
   owner-known : (tag j : ℕ) → OwnsIn l tag j → k.owner tag ≡ some (command_at l j)
@@ -43,7 +43,7 @@ module _ (l : Ledger) (k : Observer) (w : Knows l k) where
   known-tag : (tag : ℕ) → TagKnown k tag → TagOpen l tag
   known-tag tag c =
       let n = known-line l (owner_in l tag) c.0 (sym (w.owners tag) ∙ c.1) in
-      (n.0, owner_owns l.lines l.used tag n.0 n.1)
+      (n.0, owner-owns l.lines l.used tag n.0 n.1)
 
   line_known : (j : ℕ) → j < line_max → LineOpen l j → LineKnown k j
   line_known j h e =
@@ -54,7 +54,7 @@ module _ (l : Ledger) (k : Observer) (w : Knows l k) where
   known-open : (j : ℕ) → LineKnown k j → LineOpen l j
   known-open j c =
       let n = known-line l (owner_in l c.0) c.1 (sym (w.owners c.0) ∙ c.2) in
-      let o = owner_owns l.lines l.used c.0 n.0 n.1 in
+      let o = owner-owns l.lines l.used c.0 n.0 n.1 in
       ap (digit l.used) (sym c.3 ∙ sym (ap (λ (d : OpenCommand). d.line) n.2)) ∙ o.opened
 
   next_known : (tag : ℕ) → NextTag (TagOpen l) l.counter tag → NextTag (TagKnown k) k.next tag
@@ -84,7 +84,7 @@ module _ (l : Ledger) (k : Observer) (w : Knows l k) where
       record {
         full = λ e. r.full (sym w.count ∙ e);
         type = λ room e. r.type (λ n. room (w.count ∙ n)) e;
-        given = λ room e. (let g = r.given (λ n. room (w.count ∙ n)) e in (g.0, g.1, next_known g.0.tag g.2, lowest-known g.0.line g.3));
+        given = λ room e. (let g = r.given (λ n. room (w.count ∙ n)) e in (g.0, g.1, next_known g.0.tag.0 g.2, lowest-known g.0.line g.3));
       }
 
   report-from : (c : OpenCommand) (f : Effect) → verdict_report (verdict_from c f) ≡ report_of c f

@@ -2,44 +2,46 @@
 -- Assumes nothing.
 use mathlib.Core.Path.{◌≡◌, refl, sym, ap, ◌∙◌, subst}
 use mathlib.Core.Bool.{Bool, true, false, cond, not, ◌&&◌, ◌||◌, true≢false, and-false}
-use mathlib.Core.Logic.{◌⊎◌, inl, inr}
+use mathlib.Core.Logic.{inl, inr}
 use mathlib.Core.Option.{Option, none, some}
+use Rattle.std.specs.Prelude.{Option as Owner, Some, None, Result, Ok}
+use Rattle.std.proofs.lemmas.Bool.{cases_Bool, cases_eq}
 use Prim.Native.Nat.{ℕ, ◌+◌, ◌-◌, ◌<◌}
 use native.Mathlib.Omega.{arith}
 use lib.Count.{ones, ones-ones}
 use lib.Dec.{eqb}
 use lib.ListN.{length, length-set}
+use lib.Seq.{get_or-set_same, get_or-set_other}
 use borrow.Author.Tests.{eqb-true, eqb-false}
 use Rattle.kind.specs.Kinds.{TX, OK, ERR, RX, TX_DONE, is_command}
 use Rattle.ledger.specs.declared.Line.{Line}
 use Rattle.ledger.specs.declared.Ledger.{Ledger}
-use Rattle.ledger.specs.declared.Opened.{Opened}
-use Rattle.ledger.specs.declared.Opened.TheVariants as O
+use Rattle.ledger.specs.declared.Place.{Place}
+use Rattle.ledger.specs.declared.OpenError.{OpenError}
 use Rattle.ledger.specs.declared.Verdict.{Verdict}
 use Rattle.ledger.specs.declared.Verdict.TheVariants as J
 use Rattle.ledger.specs.Digits.{digit}
-use Rattle.ledger.specs.Lines.{line_max, line_at, accepted, awaits}
-use Rattle.ledger.specs.Calls.{fresh_tag, lowest_free, opened_result, open_left, taken}
+use Rattle.ledger.specs.Lines.{line_max, no_line, wrapped, line_at, accepted, awaits}
+use Rattle.ledger.specs.Calls.{fresh_tag, lowest_free, next_place, opened_result, open_left, taken}
 use Rattle.ledger.specs.Calls.{verdict_at, verdict_by, verdict_of, freed, marked, answer_left}
 use Rattle.ledger.specs.History.{Fits, OwnsIn, NextTag, LowestLine, TagOpen, LineOpen, Distinct}
 use Rattle.ledger.specs.History.{opens, hears, place, leaves, replies, OpenCommand, Observer, nobody, put}
 use Rattle.ledger.specs.History.{Effect, ignored, accepts, closes, on_tx, effect, effected, heard_by, sees}
-use Rattle.ledger.proofs.Changes.{owner_in, same-owner, other-line, taken-line, taken-new, not_taken, taken-other, taken-old, taken_back}
-use Rattle.ledger.proofs.Changes.{freed-keep, freed-other, freed-back, with_mark, marked-line, marked_other, marked-keep, marked-back}
-use Rattle.ledger.proofs.Digits.{not-one, digit-of-zero, set-ones, set-lt, clear-ones}
-use Rattle.ledger.proofs.Owner.{true-or-false, only-owner, no-owner}
+use Rattle.ledger.proofs.Changes.{owner_in, same-owner, Beside, turned, owns-beside}
+use Rattle.ledger.proofs.Digits.{not-one, set_same, set_other, clear-same, clear-other, digit-of-zero, set-ones, set-lt, clear-ones}
+use Rattle.ledger.proofs.Owner.{owner-owns, only-owner, no-owner}
 use Rattle.ledger.proofs.Vacancy.{first-vacant}
-use Rattle.ledger.proofs.Verdicts.{verdict-by, owner_owns}
-use Rattle.ledger.proofs.Openings.{fresh_of, answer-by, lowest-line}
+use Rattle.ledger.proofs.Verdicts.{verdict-by}
+use Rattle.ledger.proofs.Openings.{answer-by, lowest-line}
 
 -- ---- the invariant
 
 abbrev pub command_at : Ledger → ℕ → OpenCommand
 command_at l j = record { command = (line_at l j).command; line = j; accepted = accepted (line_at l j) }
 
-abbrev pub known : Ledger → Option ℕ → Option OpenCommand
-known l none = none
-known l (some j) = some (command_at l j)
+abbrev pub known : Ledger → Owner ℕ → Option OpenCommand
+known l None = none
+known l (Some j) = some (command_at l j)
 
 pub record Knows (l : Ledger) (k : Observer) : Type 0 where
   pub fits : Fits l
@@ -53,106 +55,137 @@ pub record Knows (l : Ledger) (k : Observer) : Type 0 where
 abbrev of_line : ℕ → Line → Option OpenCommand
 of_line j x = some record { command = x.command; line = j; accepted = accepted x }
 
-known_same : (l m : Ledger) (r : Option ℕ) → ((j : ℕ) → r ≡ some j → line_at m j ≡ line_at l j) → known l r ≡ known m r
-known_same l m none same = refl
-known_same l m (some j) same = ap (of_line j) (sym (same j refl))
+-- A call that changes one line keeps the invariant: where the line is open, before or after, it has the tag, no other line has that, and c is what is then
+-- known of it.
+module _ (l m : Ledger) (k : Observer) (tag line : ℕ) (c : Option OpenCommand) (w : Knows l k) (b : Beside line l m) (nonzero : tag ≡ 0 → ⊥)
+    (was : (t : ℕ) → OwnsIn l t line → t ≡ tag) (sole : (j : ℕ) → OwnsIn l tag j → j ≡ line) (now : (t : ℕ) → OwnsIn m t line → t ≡ tag) where
+  back : (t j : ℕ) → (j ≡ line → ⊥) → OwnsIn m t j → OwnsIn l t j
+  back = owns-beside line m l (turned line l m b)
 
--- where one line alone owns a tag, that is the one that is known
-only-known : (m : Ledger) (tag j : ℕ) → Distinct m → OwnsIn m tag j → known m (owner_in m tag) ≡ of_line j (line_at m j)
-only-known m tag j one o = ap (known m) (only-owner m.lines m.used tag j o (λ i p. one tag i j p o))
+  -- a tag of the line, and of another
+  alone : (t j : ℕ) → OwnsIn m t line → OwnsIn m t j → j ≡ line
+  alone t j o p = elim (cases_eq j line) [ inl e ↦ e | inr d ↦ sole j (subst (λ s. OwnsIn l s j) (now t o) (back t j d p)) ]
 
--- what was put for a tag, and what others have
-put_same : (tag t : ℕ) (c : Option OpenCommand) (others : ℕ → Option OpenCommand) → eqb t tag ≡ true → put tag c others t ≡ c
-put_same tag t c others b = ap (λ (z : Bool). cond z c (others t)) b
+  beside-distinct : Distinct m
+  beside-distinct t i j p q = elim (cases_eq i line) [
+    | inl e ↦ e ∙ sym (alone t j (subst (OwnsIn m t) e p) q)
+    | inr d ↦ (elim (cases_eq j line) [
+      | inl e ↦ absurd (d (alone t i (subst (OwnsIn m t) e q) p))
+      | inr f ↦ w.distinct t i j (back t i d p) (back t j f q)
+    ])
+  ]
 
-put_other : (tag t : ℕ) (c : Option OpenCommand) (others : ℕ → Option OpenCommand) → eqb t tag ≡ false → put tag c others t ≡ others t
-put_other tag t c others b = ap (λ (z : Bool). cond z c (others t)) b
+  owners-beside : c ≡ known m (owner_in m tag) → (t : ℕ) → put tag c k.owner t ≡ known m (owner_in m t)
+  owners-beside e t = elim (cases_Bool (eqb t tag)) [
+    | inl y ↦ ap (λ z. cond z c (k.owner t)) y ∙ e ∙ ap (λ s. known m (owner_in m s)) (sym (eqb-true t tag y))
+    | inr n ↦ (let other = eqb-false t tag n in
+        ap (λ z. cond z c (k.owner t)) n ∙ w.owners t ∙ stays (owner_in l t) refl other
+        ∙ ap (known m) (same-owner l m t beside-distinct (λ j o. owns-beside line l m b t j (not_line t j other o) o)
+        (λ j o. back t j (λ q. other (now t (subst (OwnsIn m t) q o))) o)))
+  ]
+    where
+      not_line : (t j : ℕ) → (t ≡ tag → ⊥) → OwnsIn l t j → j ≡ line → ⊥
+      not_line t j other o q = other (was t (subst (OwnsIn l t) q o))
+
+      stays : (r : Owner ℕ) → owner_in l t ≡ r → (t ≡ tag → ⊥) → known l r ≡ known m r
+      stays None q other = refl
+      stays (Some j) q other = ap (of_line j) (b.lines j (not_line t j other (owner-owns l.lines l.used t j q)))
+
+  knows-beside : (count next : ℕ) → Fits m → count ≡ ones m.used → next ≡ m.counter → c ≡ known m (owner_in m tag)
+      → Knows m (record { owner = put tag c k.owner; count = count; next = next })
+  knows-beside count next fits counts nexts e =
+      record {
+        fits = fits;
+        distinct = beside-distinct;
+        nonzero = λ j o. (elim (cases_eq j line) [ inl q ↦ nonzero (sym (now 0 (subst (OwnsIn m 0) q o))) | inr d ↦ w.nonzero j (back 0 j d o) ]);
+        owners = owners-beside e;
+        count = counts;
+        next = nexts;
+      }
+
+  -- what is known of the tag, where the line is open
+  known-line_of : OwnsIn m tag line → known m (owner_in m tag) ≡ of_line line (line_at m line)
+  known-line_of o = ap (known m) (only-owner m.lines m.used tag line o (λ i p. beside-distinct tag i line p o))
 
 -- ---- a command
 
 -- one that takes a line
 knows-taken : (l : Ledger) (k : Observer) (command : ℕ) → Knows l k → (ones l.used ≡ line_max → ⊥)
-    → Knows (taken l command (fresh_of l) (lowest_free l)) (sees (opens command) (place (opened_result (O.Line (fresh_of l) (lowest_free l)))) k)
+    → Knows (taken l command (next_place l)) (sees (opens command) (place (opened_result (Ok (next_place l)))) k)
 knows-taken l k command w room =
-    record {
-      fits = record {
-        counter = omega arith;
-        used = set-lt 16 line l.used low.inside w.fits.used clear;
-        lines = length-set l.lines line (record { tag = fresh_of l; command = command; accepted = 0 }) ∙ w.fits.lines;
-      };
-      distinct = distinct;
-      nonzero = λ j o. (elim (back 0 j o) [ inl b ↦ next.nonzero (sym b.1) | inr b ↦ w.nonzero j b ]);
-      owners = owners;
-      count = ap (λ (n : ℕ). n + 1) w.count ∙ (let s = set-ones line l.used clear in omega arith);
-      next = refl;
-    }
+    knows-beside l m k tag line mine w beside next.nonzero was sole now (k.count + 1) (wrapped (tag + 1))
+    (record { counter = omega arith; used = set-lt 16 line l.used low.inside w.fits.used clear; lines = length-set l.lines line taken_line ∙ w.fits.lines })
+    (omega (arith, w.count, set-ones line l.used clear)) refl
+    (ap (λ z. some record { command = command; line = line; accepted = z }) (sym (and-false (eqb command TX)))
+    ∙ ap (of_line line) (sym at_line) ∙ sym (known-line_of l m k tag line mine w beside next.nonzero was sole now mine_owns))
   where
+    tag : ℕ
+    tag = fresh_tag l
+
     line : ℕ
     line = lowest_free l
 
     m : Ledger
-    m = taken l command (fresh_of l) line
+    m = taken l command (next_place l)
 
-    low : LowestLine (LineOpen l) line
-    low = lowest-line l w.fits room
-
-    next : NextTag (TagOpen l) l.counter (fresh_tag l)
-    next = first-vacant l.lines l.used l.counter w.fits.counter w.fits.lines
-
-    inside : line < length l.lines
-    inside = subst (λ (n : ℕ). line < n) (sym w.fits.lines) low.inside
-
-    clear : digit l.used line ≡ 0
-    clear = not-one l.used line low.free
-
-    back : (tag j : ℕ) → OwnsIn m tag j → ((j ≡ line) × (tag ≡ fresh_tag l)) ⊎ OwnsIn l tag j
-    back = taken_back l command (fresh_of l) line inside clear
-
-    fresh : (tag j : ℕ) → tag ≡ fresh_tag l → OwnsIn l tag j → ⊥
-    fresh tag j e o = next.vacant (j, subst (λ (t : ℕ). OwnsIn l t j) e o)
-
-    distinct : Distinct m
-    distinct tag i j p q = elim (back tag i p) [
-      | inl a ↦ (elim (back tag j q) [ inl b ↦ a.0 ∙ sym b.0 | inr b ↦ absurd (fresh tag j a.1 b) ])
-      | inr a ↦ (elim (back tag j q) [ inl b ↦ absurd (fresh tag i b.1 a) | inr b ↦ w.distinct tag i j a b ])
-    ]
+    taken_line : Line
+    taken_line = record { tag = record { 0 = tag }; command = command; accepted = 0 }
 
     mine : Option OpenCommand
     mine = some record { command = command; line = line; accepted = false }
 
-    old : (tag : ℕ) → eqb tag (fresh_tag l) ≡ false → (j : ℕ) → OwnsIn m tag j → OwnsIn l tag j
-    old tag b j o = elim (back tag j o) [ inl q ↦ absurd (eqb-false tag (fresh_tag l) b q.1) | inr q ↦ q ]
+    low : LowestLine (LineOpen l) line
+    low = lowest-line l w.fits room
 
-    same : (tag : ℕ) → eqb tag (fresh_tag l) ≡ false → owner_in l tag ≡ owner_in m tag
-    same tag b = same-owner l m tag distinct (taken-old l command (fresh_of l) line inside clear tag) (old tag b)
+    next : NextTag (TagOpen l) l.counter tag
+    next = first-vacant l.lines l.used l.counter w.fits.counter w.fits.lines
 
-    stays : (tag j : ℕ) → owner_in l tag ≡ some j → line_at m j ≡ line_at l j
-    stays tag j e = taken-other l command (fresh_of l) line inside clear j (not_taken l command (fresh_of l) line inside clear tag j (owner_owns _ _ tag j e))
+    inside : line < length l.lines
+    inside = subst (λ n. line < n) (sym w.fits.lines) low.inside
 
-    new : (tag : ℕ) → eqb tag (fresh_tag l) ≡ true → mine ≡ known m (owner_in m tag)
-    new tag b =
-        let o = subst (λ (t : ℕ). OwnsIn m t line) (sym (eqb-true tag (fresh_tag l) b)) (taken-new l command (fresh_of l) line inside clear) in
-        ap (λ (z : Bool). some record { command = command; line = line; accepted = z }) (sym (and-false (eqb command TX)))
-        ∙ ap (of_line line) (sym (taken-line l command (fresh_of l) line inside clear)) ∙ sym (only-known m tag line distinct o)
+    clear : digit l.used line ≡ 0
+    clear = not-one l.used line low.free
 
-    owners : (tag : ℕ) → put (fresh_tag l) mine k.owner tag ≡ known m (owner_in m tag)
-    owners tag = elim (true-or-false (eqb tag (fresh_tag l))) [
-      | inl b ↦ put_same (fresh_tag l) tag mine k.owner b ∙ new tag b
-      | inr b ↦ put_other (fresh_tag l) tag mine k.owner b ∙ w.owners tag ∙ known_same l m (owner_in l tag) (stays tag) ∙ ap (known m) (same tag b)
-    ]
+    at_line : line_at m line ≡ taken_line
+    at_line = get_or-set_same l.lines line taken_line no_line inside
+
+    beside : Beside line l m
+    beside =
+        record {
+          long = sym (length-set l.lines line taken_line);
+          opened = λ j d. sym (set_other line j l.used d clear);
+          lines = λ j d. sym (get_or-set_other l.lines line j taken_line no_line d);
+        }
+
+    was : (t : ℕ) → OwnsIn l t line → t ≡ tag
+    was t o = absurd (low.free o.opened)
+
+    sole : (j : ℕ) → OwnsIn l tag j → j ≡ line
+    sole j o = absurd (next.vacant (j, o))
+
+    now : (t : ℕ) → OwnsIn m t line → t ≡ tag
+    now t o = sym o.tagged ∙ ap (λ x. x.tag.0) at_line
+
+    mine_owns : OwnsIn m tag line
+    mine_owns =
+        record {
+          inside = subst (λ n. line < n) (sym (length-set l.lines line taken_line)) inside;
+          opened = set_same line l.used clear;
+          tagged = ap (λ x. x.tag.0) at_line;
+        }
 
 -- whatever a command is answered
 pub knows-opens : (l : Ledger) (k : Observer) (command : ℕ) → Knows l k
     → Knows (leaves l (opens command)) (sees (opens command) (replies l (opens command)) k)
-knows-opens l k command w = elim (true-or-false (eqb (ones l.used) line_max)) [
-  | inl b ↦ subst after-answer (answer-by l command (fresh_of l) (lowest_free l) b refl refl refl) w
-  | inr b ↦ (elim (true-or-false (is_command command)) [
-    | inl c ↦ subst after-answer (answer-by l command (fresh_of l) (lowest_free l) b c refl refl) (knows-taken l k command w (eqb-false _ _ b))
-    | inr c ↦ subst after-answer (answer-by l command (fresh_of l) (lowest_free l) b c refl refl) w
+knows-opens l k command w = elim (cases_Bool (eqb (ones l.used) line_max)) [
+  | inl b ↦ subst after-answer (sym (answer-by l command b refl)) w
+  | inr b ↦ (elim (cases_Bool (is_command command)) [
+    | inl c ↦ subst after-answer (sym (answer-by l command b c)) (knows-taken l k command w (eqb-false _ _ b))
+    | inr c ↦ subst after-answer (sym (answer-by l command b c)) w
   ])
 ]
   where
-    after-answer : Opened → Type 0
+    after-answer : Result Place OpenError → Type 0
     after-answer a = Knows (open_left l command a) (sees (opens command) (place (opened_result a)) k)
 
 -- ---- an answer
@@ -191,9 +224,9 @@ abbrev pub verdict_known : ℕ → Option OpenCommand → Verdict
 verdict_known kind none = J.Unexpected
 verdict_known kind (some c) = verdict_from c (effect c kind)
 
-owner-verdict : (l : Ledger) (kind : ℕ) (r : Option ℕ) → verdict_by l kind r ≡ verdict_known kind (known l r)
-owner-verdict l kind none = refl
-owner-verdict l kind (some j) = effect-verdict (line_at l j) j kind (command_at l j) refl
+owner-verdict : (l : Ledger) (kind : ℕ) (r : Owner ℕ) → verdict_by l kind r ≡ verdict_known kind (known l r)
+owner-verdict l kind None = refl
+owner-verdict l kind (Some j) = effect-verdict (line_at l j) j kind (command_at l j) refl
 
 -- no open line has tag zero, so the observer needs no rule for it
 zero-owner : (l : Ledger) (k : Observer) → Knows l k → k.owner 0 ≡ none
@@ -201,10 +234,10 @@ zero-owner l k w = w.owners 0 ∙ ap (known l) (no-owner l.lines l.used 0 w.nonz
 
 pub hear-verdict : (l : Ledger) (k : Observer) (kind tag : ℕ) {b : Bool} → Knows l k → (eqb kind RX || (eqb kind ERR && eqb tag 0)) ≡ b
     → verdict_of l kind (record { 0 = tag }) ≡ cond b J.Nobody (verdict_known kind (k.owner tag))
-hear-verdict l k kind tag {b} w e = elim (true-or-false (eqb tag 0)) [
-  | inl z ↦ sym (verdict-by l kind (record { 0 = tag }) e z refl)
+hear-verdict l k kind tag {b} w e = elim (cases_Bool (eqb tag 0)) [
+  | inl z ↦ verdict-by l kind (record { 0 = tag }) e z
       ∙ ap (λ (r : Option OpenCommand). cond b J.Nobody (verdict_known kind r)) (sym (ap k.owner (eqb-true tag 0 z) ∙ zero-owner l k w))
-  | inr z ↦ sym (verdict-by l kind (record { 0 = tag }) e z refl)
+  | inr z ↦ verdict-by l kind (record { 0 = tag }) e z
       ∙ ap (cond b J.Nobody) (owner-verdict l kind (owner_in l tag) ∙ ap (verdict_known kind) (sym (w.owners tag)))
 ]
 
@@ -223,7 +256,7 @@ rx-heard tag k (some c) = ap (λ (f : Effect). effected tag c f k) (rx-ignored c
 
 nobodys-heard : (l : Ledger) (k : Observer) (kind tag : ℕ) → Knows l k → (eqb kind RX || (eqb kind ERR && eqb tag 0)) ≡ true
     → heard_by kind tag (k.owner tag) k ≡ k
-nobodys-heard l k kind tag w e = elim (true-or-false (eqb kind RX)) [
+nobodys-heard l k kind tag w e = elim (cases_Bool (eqb kind RX)) [
   | inl b ↦ ap (λ (n : ℕ). heard_by n tag (k.owner tag) k) (eqb-true kind RX b) ∙ rx-heard tag k (k.owner tag)
   | inr b ↦ (let z = zero (eqb kind RX) (eqb kind ERR) (eqb tag 0) refl b e in
       ap (λ (r : Option OpenCommand). heard_by kind tag r k) (ap k.owner z ∙ zero-owner l k w))
@@ -238,77 +271,76 @@ nobodys-heard l k kind tag w e = elim (true-or-false (eqb kind RX)) [
 -- an answer that closes the command of line j
 knows-freed : (l : Ledger) (k : Observer) (tag j : ℕ) → Knows l k → OwnsIn l tag j → Knows (freed l j) (effected tag (command_at l j) closes k)
 knows-freed l k tag j w o =
-    record {
-      fits = record { counter = w.fits.counter; used = (let u = w.fits.used in omega arith); lines = w.fits.lines };
-      distinct = distinct;
-      nonzero = λ i p. w.nonzero i (back 0 i p);
-      owners = owners;
-      count = ap (λ (n : ℕ). n - 1) w.count ∙ (let s = clear-ones j l.used o.opened in omega arith);
-      next = w.next;
-    }
+    knows-beside l m k tag j none w beside (λ z. w.nonzero j (subst (λ t. OwnsIn l t j) z o)) (λ t p. sym p.tagged ∙ o.tagged) (λ i p. w.distinct tag i j p o)
+    (λ t p. absurd (closed t p)) (k.count - 1) k.next
+    (record { counter = w.fits.counter; used = omega (arith, w.fits.used); lines = w.fits.lines })
+    (omega (arith, w.count, clear-ones j l.used o.opened)) w.next
+    (ap (known m) (sym (no-owner m.lines m.used tag gone)))
   where
     m : Ledger
     m = freed l j
 
-    back : (t i : ℕ) → OwnsIn m t i → OwnsIn l t i
-    back = freed-back l j o.opened
+    beside : Beside j l m
+    beside = record { long = refl; opened = λ i d. sym (clear-other j i l.used d o.opened); lines = λ i d. refl }
 
-    distinct : Distinct m
-    distinct t a b p q = w.distinct t a b (back t a p) (back t b q)
+    closed : (t : ℕ) → OwnsIn m t j → ⊥
+    closed t p = let q = p.opened in omega (arith, clear-same j l.used o.opened)
 
-    gone : (t i : ℕ) → t ≡ tag → OwnsIn m t i → ⊥
-    gone t i e p = freed-other l j o.opened t i p (w.distinct tag i j (subst (λ (s : ℕ). OwnsIn l s i) e (back t i p)) o)
-
-    keep : (t : ℕ) → eqb t tag ≡ false → (i : ℕ) → OwnsIn l t i → OwnsIn m t i
-    keep t b i p = freed-keep l j o.opened t i (other-line l t tag i j b p o) p
-
-    owners : (t : ℕ) → put tag none k.owner t ≡ known m (owner_in m t)
-    owners t = elim (true-or-false (eqb t tag)) [
-      | inl b ↦ put_same tag t none k.owner b ∙ ap (known m) (sym (no-owner m.lines m.used t (λ i. gone t i (eqb-true t tag b))))
-      | inr b ↦ put_other tag t none k.owner b ∙ w.owners t ∙ known_same l m (owner_in l t) (λ i e. refl)
-          ∙ ap (known m) (same-owner l m t distinct (keep t b) (back t))
+    gone : (i : ℕ) → OwnsIn m tag i → ⊥
+    gone i p = elim (cases_eq i j) [
+      | inl e ↦ closed tag (subst (OwnsIn m tag) e p)
+      | inr d ↦ d (w.distinct tag i j (owns-beside j m l (turned j l m beside) tag i d p) o)
     ]
 
 -- an OK that leaves the TX of line j open
 knows-marked : (l : Ledger) (k : Observer) (tag j : ℕ) → Knows l k → OwnsIn l tag j → eqb (line_at l j).command TX ≡ true
     → Knows (marked l j) (effected tag (command_at l j) accepts k)
 knows-marked l k tag j w o tx =
-    record {
-      fits = record { counter = w.fits.counter; used = w.fits.used; lines = length-set l.lines j (with_mark l j o.inside) ∙ w.fits.lines };
-      distinct = distinct;
-      nonzero = λ i p. w.nonzero i (back 0 i p);
-      owners = owners;
-      count = w.count;
-      next = w.next;
-    }
+    knows-beside l m k tag j (of_tx true) w beside nonzero was sole now k.count k.next
+    (record { counter = w.fits.counter; used = w.fits.used; lines = length-set l.lines j marked_line ∙ w.fits.lines })
+    w.count w.next
+    (ap (λ z. of_tx (z && true)) (sym tx) ∙ ap (of_line j) (sym at_line)
+    ∙ sym (known-line_of l m k tag j (of_tx true) w beside nonzero was sole now mine_owns))
   where
     m : Ledger
     m = marked l j
 
-    back : (t i : ℕ) → OwnsIn m t i → OwnsIn l t i
-    back = marked-back l j o.inside
+    marked_line : Line
+    marked_line = record { tag = (line_at l j).tag; command = (line_at l j).command; accepted = 1 }
 
-    distinct : Distinct m
-    distinct t a b p q = w.distinct t a b (back t a p) (back t b q)
+    of_tx : Bool → Option OpenCommand
+    of_tx z = some record { command = (line_at l j).command; line = j; accepted = z }
 
-    now : Option OpenCommand
-    now = some record { command = (line_at l j).command; line = j; accepted = true }
+    at_line : line_at m j ≡ marked_line
+    at_line = get_or-set_same l.lines j marked_line no_line o.inside
 
-    new : (t : ℕ) → eqb t tag ≡ true → now ≡ known m (owner_in m t)
-    new t b =
-        let mine = subst (λ (s : ℕ). OwnsIn m s j) (sym (eqb-true t tag b)) (marked-keep l j o.inside tag j o) in
-        sym (ap (λ (z : Bool). some record { command = (line_at l j).command; line = j; accepted = z && true }) tx)
-        ∙ ap (of_line j) (sym (marked-line l j o.inside)) ∙ sym (only-known m t j distinct mine)
+    beside : Beside j l m
+    beside =
+        record {
+          long = sym (length-set l.lines j marked_line);
+          opened = λ i d. refl;
+          lines = λ i d. sym (get_or-set_other l.lines j i marked_line no_line d);
+        }
 
-    stays : (t : ℕ) → eqb t tag ≡ false → (i : ℕ) → owner_in l t ≡ some i → line_at m i ≡ line_at l i
-    stays t b i e = marked_other l j o.inside i (other-line l t tag i j b (owner_owns _ _ t i e) o)
+    nonzero : tag ≡ 0 → ⊥
+    nonzero z = w.nonzero j (subst (λ t. OwnsIn l t j) z o)
 
-    owners : (t : ℕ) → put tag now k.owner t ≡ known m (owner_in m t)
-    owners t = elim (true-or-false (eqb t tag)) [
-      | inl b ↦ put_same tag t now k.owner b ∙ new t b
-      | inr b ↦ put_other tag t now k.owner b ∙ w.owners t ∙ known_same l m (owner_in l t) (stays t b)
-          ∙ ap (known m) (same-owner l m t distinct (marked-keep l j o.inside t) (back t))
-    ]
+    was : (t : ℕ) → OwnsIn l t j → t ≡ tag
+    was t p = sym p.tagged ∙ o.tagged
+
+    sole : (i : ℕ) → OwnsIn l tag i → i ≡ j
+    sole i p = w.distinct tag i j p o
+
+    now : (t : ℕ) → OwnsIn m t j → t ≡ tag
+    now t p = sym p.tagged ∙ ap (λ x. x.tag.0) at_line ∙ o.tagged
+
+    mine_owns : OwnsIn m tag j
+    mine_owns =
+        record {
+          inside = subst (λ n. j < n) (sym (length-set l.lines j marked_line)) o.inside;
+          opened = o.opened;
+          tagged = ap (λ x. x.tag.0) at_line ∙ o.tagged;
+        }
 
 -- whatever it does
 accepts-tx : (c : OpenCommand) (kind : ℕ) → effect c kind ≡ accepts → eqb c.command TX ≡ true
@@ -340,13 +372,13 @@ knows-heard l k kind tag w = subst heard (sym (w.owners tag)) (by (owner_in l ta
     on j o accepts e = knows-marked l k tag j w o (accepts-tx (command_at l j) kind e)
     on j o closes e = knows-freed l k tag j w o
 
-    by : (r : Option ℕ) → owner_in l tag ≡ r → heard (known l r)
-    by none e = w
-    by (some j) e = on j (owner_owns l.lines l.used tag j e) (effect (command_at l j) kind) refl
+    by : (r : Owner ℕ) → owner_in l tag ≡ r → heard (known l r)
+    by None e = w
+    by (Some j) e = on j (owner-owns l.lines l.used tag j e) (effect (command_at l j) kind) refl
 
 pub knows-hears : (l : Ledger) (k : Observer) (kind tag : ℕ) → Knows l k
     → Knows (leaves l (hears kind tag)) (sees (hears kind tag) (replies l (hears kind tag)) k)
-knows-hears l k kind tag w = elim (true-or-false (eqb kind RX || (eqb kind ERR && eqb tag 0))) [
+knows-hears l k kind tag w = elim (cases_Bool (eqb kind RX || (eqb kind ERR && eqb tag 0))) [
   | inl b ↦ subst heard (sym (hear-verdict l k kind tag w b)) (subst (Knows l) (sym (nobodys-heard l k kind tag w b)) w)
   | inr b ↦ subst heard (sym (hear-verdict l k kind tag w b)) (knows-heard l k kind tag w)
 ]

@@ -1,95 +1,52 @@
 -- The next tag: what one more candidate adds to the search, for the loop; and that it finds the first vacant tag, for the laws.
 -- Assumes nothing.
-use mathlib.Core.Path.{◌≡◌, refl, sym, ap, ap₂, ◌∙◌}
-use mathlib.Core.Bool.{Bool, true, false, cond, not, ◌&&◌, true≢false}
-use mathlib.Core.List.{List, [], ◌∷◌}
-use mathlib.Core.Logic.{◌⊎◌, inl, inr}
-use mathlib.Core.Option.{Option, none, some}
-use Prim.Native.Nat.{ℕ, zero, suc, ◌+◌, ◌-◌, ◌/◌, ◌%◌, ◌≤◌, ◌<◌}
-use native.Mathlib.Nat.{not-suc-le-zero}
-use native.Mathlib.Omega.{arith}
-use borrow.Author.Tests.{eqb-true, eqb-false, eq-eqb, ltb-true, ltb-false}
-use lib.Dec.{eqb, ltb}
-use lib.ListN.{length}
+use Rattle.std.proofs.Common.{◌≡◌, refl, sym, ap, ◌∙◌, ◌⊎◌, inl, inr, arith}
+use Rattle.std.proofs.Common.{ℕ, zero, suc, ◌+◌, ◌-◌, ◌%◌, ◌≤◌, ◌<◌, Bool, true, false, cond, not, ◌&&◌, List, ◌∷◌, map, length, get_or, eqb}
+use Rattle.std.specs.Prelude.{Option, Some, None, is_none, Contains}
+use Rattle.std.specs.Cmp.{nat_eq_equiv}
+use Rattle.std.proofs.lemmas.Bool.{cases_Bool, cases_lt, eqb-true, eqb-false, true≢false}
+use Rattle.std.proofs.lemmas.List.{get_or-map, length-map}
+use Rattle.std.proofs.lemmas.Map.Steps.{le-length_from_below}
+use Rattle.std.proofs.lemmas.Map.Views.{list_any-from_Contains}
 use Rattle.ledger.specs.declared.Line.{Line}
-use Rattle.ledger.specs.Lines.{line_max, owner, is_none, wrapped, vacant, first_vacant, candidates}
+use Rattle.ledger.specs.Lines.{line_max, no_line, owner, wrapped, vacant, first_vacant, candidates}
 use Rattle.ledger.specs.History.{Owns, NextTag}
-use Rattle.ledger.proofs.Digits.{digit-zero}
-use Rattle.ledger.proofs.Owner.{true-or-false, owns-later, found-owns, none-owns}
-use Rattle.ledger.proofs.Pigeonhole.{one, times, not-all}
+use Rattle.ledger.proofs.Owner.{owner-owns, none-owns}
 
 -- ---- one candidate after another
-
--- a tag is vacant by whether it is zero, and by its owner
-pub vacant-by : (xs : List Line) (u tag : ℕ) {b : Bool} {o : Option ℕ} → eqb tag 0 ≡ b → owner xs u tag ≡ o
-    → not b && is_none o ≡ vacant xs u tag
-unfolding vacant
-vacant-by xs u tag z e = ap₂ (λ (b : Bool) (o : Option ℕ). not b && is_none o) (sym z) (sym e)
 
 pub fresh-hit : (k : ℕ) (xs : List Line) (u tag : ℕ) → vacant xs u tag ≡ true → first_vacant k xs u tag ≡ tag
 unfolding first_vacant
 fresh-hit zero xs u tag e = refl
-fresh-hit (suc k) xs u tag e = ap (λ (z : Bool). cond z tag (first_vacant k xs u (wrapped (tag + 1)))) e
+fresh-hit (suc k) xs u tag e = ap (λ z. cond z tag (first_vacant k xs u (wrapped (tag + 1)))) e
 
-pub fresh-miss : (k : ℕ) (xs : List Line) (u tag : ℕ) → 0 < k → vacant xs u tag ≡ false
-    → first_vacant k xs u tag ≡ first_vacant (k - 1) xs u (wrapped (tag + 1))
+-- one that is passed leads on to r, which is vacant
+pub fresh-passed : (k : ℕ) (xs : List Line) (u tag : ℕ) {r : ℕ} → vacant xs u r ≡ true → vacant xs u tag ≡ false → first_vacant k xs u tag ≡ r
+    → (j : ℕ) × (first_vacant j xs u (wrapped (tag + 1)) ≡ r)
 unfolding first_vacant
-fresh-miss zero xs u tag h e = absurd (not-suc-le-zero h)
-fresh-miss (suc k) xs u tag h e =
-    let less : k ≡ suc k - 1 = omega arith in
-    ap (λ (z : Bool). cond z tag (first_vacant k xs u (wrapped (tag + 1)))) e ∙ ap (λ (j : ℕ). first_vacant j xs u (wrapped (tag + 1))) less
-
-pub fresh-last : (k : ℕ) (xs : List Line) (u tag : ℕ) → k ≤ 0 → first_vacant k xs u tag ≡ tag
-unfolding first_vacant
-fresh-last zero xs u tag h = refl
-fresh-last (suc k) xs u tag h = absurd (not-suc-le-zero h)
+fresh-passed zero xs u tag v m e = absurd (true≢false (sym v ∙ ap (vacant xs u) (sym e) ∙ m))
+fresh-passed (suc k) xs u tag v m e = (k, ap (λ z. cond z tag (first_vacant k xs u (wrapped (tag + 1)))) (sym m) ∙ e)
 
 -- ---- what is found
 
--- the numbers that are passed over: zero for a free line
-tags : List Line → ℕ → List ℕ
-tags [] u = []
-tags (x ∷ xs) u = cond (eqb (u % 2) 1) x.tag.0 0 ∷ tags xs (u / 2)
-
-tags-length : (xs : List Line) (u : ℕ) → length (tags xs u) ≡ length xs
-unfolding tags
-tags-length [] u = refl
-tags-length (x ∷ xs) u = ap suc (tags-length xs (u / 2))
-
--- a tag that has an owner is among them
-owned-tag : (xs : List Line) (u tag j : ℕ) → Owns xs u tag j → 1 ≤ times tag (tags xs u)
-unfolding tags times
-owned-tag [] u tag j o = absurd (not-suc-le-zero o.inside)
-owned-tag (x ∷ xs) u tag zero o =
-    let set : eqb (u % 2) 1 ≡ true = eq-eqb (u % 2) 1 (sym (digit-zero u) ∙ o.opened) in
-    let this = ap (λ (b : Bool). one (eqb tag (cond b x.tag.0 0))) set ∙ ap one (eq-eqb tag x.tag.0 (sym o.tagged)) in
-    omega arith
-owned-tag (x ∷ xs) u tag (suc j) o = let i = owned-tag xs (u / 2) tag j (owns-later x xs u tag j o) in omega arith
-
--- a number that is not vacant is zero, or has an owner
+-- a number that is not vacant is zero, or has an owner; and a vacant one is neither
 pub not-vacant : (xs : List Line) (u tag : ℕ) → vacant xs u tag ≡ false → (tag ≡ 0) ⊎ ((j : ℕ) × Owns xs u tag j)
 unfolding vacant
-not-vacant xs u tag e = zeros (eqb tag 0) refl e
+not-vacant xs u tag e = go (eqb tag 0) (owner xs u tag) refl refl e
   where
-    found : (r : Option ℕ) → owner xs u tag ≡ r → is_none r ≡ false → (tag ≡ 0) ⊎ ((j : ℕ) × Owns xs u tag j)
-    found none h q = absurd (true≢false q)
-    found (some k) h q = let f = found-owns xs u tag 0 k h in inr (f.0, f.2)
+    go : (b : Bool) (r : Option ℕ) → eqb tag 0 ≡ b → owner xs u tag ≡ r → (not b && is_none r) ≡ false → (tag ≡ 0) ⊎ ((j : ℕ) × Owns xs u tag j)
+    go true r h o q = inl (eqb-true tag 0 h)
+    go false (Some k) h o q = inr (k, owner-owns xs u tag k o)
+    go false None h o q = absurd (true≢false q)
 
-    zeros : (b : Bool) → eqb tag 0 ≡ b → (not b && is_none (owner xs u tag)) ≡ false → (tag ≡ 0) ⊎ ((j : ℕ) × Owns xs u tag j)
-    zeros true h q = inl (eqb-true tag 0 h)
-    zeros false h q = found (owner xs u tag) refl q
-
-pub is-vacant : (xs : List Line) (u tag : ℕ) → vacant xs u tag ≡ true → (tag ≡ 0 → ⊥) × ((j : ℕ) → Owns xs u tag j → ⊥)
+is-vacant : (xs : List Line) (u tag : ℕ) → vacant xs u tag ≡ true → (tag ≡ 0 → ⊥) × ((j : ℕ) → Owns xs u tag j → ⊥)
 unfolding vacant
-is-vacant xs u tag e = zeros (eqb tag 0) refl e
+is-vacant xs u tag e = go (eqb tag 0) (owner xs u tag) refl refl e
   where
-    found : (r : Option ℕ) → owner xs u tag ≡ r → is_none r ≡ true → (j : ℕ) → Owns xs u tag j → ⊥
-    found none h q j o = none-owns xs u tag 0 j h o
-    found (some k) h q j o = true≢false (sym q)
-
-    zeros : (b : Bool) → eqb tag 0 ≡ b → (not b && is_none (owner xs u tag)) ≡ true → (tag ≡ 0 → ⊥) × ((j : ℕ) → Owns xs u tag j → ⊥)
-    zeros true h q = absurd (true≢false (sym q))
-    zeros false h q = (eqb-false tag 0 h, found (owner xs u tag) refl q)
+    go : (b : Bool) (r : Option ℕ) → eqb tag 0 ≡ b → owner xs u tag ≡ r → (not b && is_none r) ≡ true → (tag ≡ 0 → ⊥) × ((j : ℕ) → Owns xs u tag j → ⊥)
+    go true r h o q = absurd (true≢false (sym q))
+    go false (Some k) h o q = absurd (true≢false (sym q))
+    go false None h o q = (eqb-false tag 0 h, λ j. none-owns xs u tag 0 j o)
 
 -- how far the search goes: each number before is not vacant, and where it ends early that one is
 record Reaches (k : ℕ) (xs : List Line) (u from tag : ℕ) : Type 0 where
@@ -102,26 +59,19 @@ record Reaches (k : ℕ) (xs : List Line) (u from tag : ℕ) : Type 0 where
 reaches : (k : ℕ) (xs : List Line) (u from : ℕ) → from < 0x10000 → Reaches k xs u from (first_vacant k xs u from)
 unfolding first_vacant
 reaches zero xs u from h =
-    record { steps = 0; within = omega arith; there = omega arith; passed = λ m l. absurd (not-suc-le-zero l); early = λ l. absurd (not-suc-le-zero l) }
-reaches (suc k) xs u from h = elim (true-or-false (vacant xs u from)) [
-  | inl e ↦ (let this = ap (λ (b : Bool). cond b from (first_vacant k xs u (wrapped (from + 1)))) e in
-      record {
-        steps = 0;
-        within = omega arith;
-        there = this ∙ (let q : from ≡ wrapped (from + 0) = omega arith in q);
-        passed = λ m l. absurd (not-suc-le-zero l);
-        early = λ l. ap (vacant xs u) this ∙ e;
-      })
-  | inr e ↦ (let later = ap (λ (b : Bool). cond b from (first_vacant k xs u (wrapped (from + 1)))) e in
-      let r = reaches k xs u (wrapped (from + 1)) (omega arith) in
-      record {
-        steps = suc r.steps;
-        within = (let w = r.within in omega arith);
-        there = later ∙ r.there ∙ (let q : wrapped (wrapped (from + 1) + r.steps) ≡ wrapped (from + suc r.steps) = omega arith in q);
-        passed = before r.steps e r.passed;
-        early = λ l. ap (vacant xs u) later ∙ r.early (omega arith);
-      })
-]
+    record { steps = 0; within = omega arith; there = omega arith; passed = λ m l. absurd (omega arith); early = λ l. absurd (omega arith) }
+reaches (suc k) xs u from h =
+    elim (vacant xs u from) as (λ b. vacant xs u from ≡ b → Reaches (suc k) xs u from (cond b from (first_vacant k xs u (wrapped (from + 1))))) [
+      | true ↦ λ e. record { steps = 0; within = omega arith; there = omega arith; passed = λ m l. absurd (omega arith); early = λ l. e }
+      | false ↦ λ e. (let r = reaches k xs u (wrapped (from + 1)) (omega arith) in
+          record {
+            steps = suc r.steps;
+            within = omega (arith, r.within);
+            there = omega (arith, r.there);
+            passed = before r.steps e r.passed;
+            early = λ l. r.early (omega arith);
+          })
+    ] refl
   where
     before : (n : ℕ) → vacant xs u from ≡ false → ((m : ℕ) → m < n → vacant xs u (wrapped (wrapped (from + 1) + m)) ≡ false)
         → (m : ℕ) → m < suc n → vacant xs u (wrapped (from + m)) ≡ false
@@ -129,50 +79,63 @@ reaches (suc k) xs u from h = elim (true-or-false (vacant xs u from)) [
     before n e rest (suc m) l =
         ap (vacant xs u) (let q : wrapped (from + suc m) ≡ wrapped (wrapped (from + 1) + m) = omega arith in q) ∙ rest m (omega arith)
 
-module _ (xs : List Line) (u from : ℕ) where
-  abbrev result : ℕ
+module _ (xs : List Line) (u from : ℕ) (fits : from < 0x10000) (all : length xs ≡ line_max) where
+  abbrev pub result : ℕ
   result = first_vacant candidates xs u from
 
-  -- zero and the open tags are counted
-  counted : (t : ℕ) → (t ≡ 0) ⊎ ((j : ℕ) × Owns xs u t j) → 1 ≤ times t (0 ∷ tags xs u)
-  unfolding times
-  counted t (inl z) = let this = ap one (eq-eqb t 0 z) in omega arith
-  counted t (inr o) = let i = owned-tag xs u t o.0 o.1 in omega arith
+  -- how many steps lead to zero, and to the tag of each line
+  steps_to : ℕ → ℕ
+  steps_to tag = (tag + 0x10000 - from) % 0x10000
 
-  -- if the last candidate were not vacant, none would be
-  late : (r : Reaches candidates xs u from result) → vacant xs u result ≡ false → candidates ≤ r.steps
-  late r e = elim (true-or-false (ltb r.steps candidates)) [
-    | inl b ↦ absurd (true≢false (sym (r.early (ltb-true r.steps candidates b)) ∙ e))
-    | inr b ↦ ltb-false r.steps candidates b
-  ]
+  passed_over : List ℕ
+  passed_over = map steps_to (0 ∷ map (λ x. x.tag.0) xs)
 
-  stuck : (r : Reaches candidates xs u from result) → vacant xs u result ≡ false
-      → (i : ℕ) → i < suc candidates → vacant xs u (wrapped (from + i)) ≡ false
-  stuck r e i l = elim (true-or-false (ltb i r.steps)) [
-    | inl b ↦ r.passed i (ltb-true i r.steps b)
-    | inr b ↦ (let all = late r e in
-        let w = r.within in
-        let g = ltb-false i r.steps b in
-        let q : i ≡ r.steps = omega arith in
-        ap (λ (x : ℕ). vacant xs u (wrapped (from + x))) q ∙ ap (vacant xs u) (sym r.there) ∙ e)
-  ]
+  counted : (q : ℕ) → q < 0x10000 → (wrapped (from + q) ≡ 0) ⊎ ((j : ℕ) × Owns xs u (wrapped (from + q)) j) → Contains passed_over q
+  unfolding steps_to passed_over
+  counted q l (inl z) = (0, omega arith, omega arith)
+  counted q l (inr o) =
+      let i = o.1.inside in
+      let j : o.0 < length (map (λ x. x.tag.0) xs) = omega (arith, length-map xs (λ x. x.tag.0)) in
+      let at : get_or (map steps_to (map (λ x. x.tag.0) xs)) o.0 q ≡ steps_to (wrapped (from + q)) =
+      get_or-map steps_to (map (λ x. x.tag.0) xs) o.0 0 q j ∙ ap steps_to (get_or-map (λ x. x.tag.0) xs o.0 no_line 0 i ∙ o.1.tagged) in
+      (suc o.0, omega (arith, length-map (map (λ x. x.tag.0) xs) steps_to), omega arith)
 
   -- as many candidates as lines, and two more: not all of them can be passed over
-  ends : Reaches candidates xs u from result → length xs ≡ line_max → vacant xs u result ≡ true
-  ends r n = elim (true-or-false (vacant xs u result)) [
+  pub found-vacant : vacant xs u result ≡ true
+  unfolding passed_over
+  found-vacant = elim (cases_Bool (vacant xs u result)) [
     | inl e ↦ e
-    | inr e ↦ absurd (not-all (suc candidates) from (0 ∷ tags xs u) (omega arith) (let q = tags-length xs u in omega arith)
-        (λ i l. counted (wrapped (from + i)) (not-vacant xs u (wrapped (from + i)) (stuck r e i l))))
+    | inr e ↦ absurd (let n = le-length_from_below passed_over 18 (λ q l. list_any-from_Contains nat_eq_equiv q passed_over
+        (counted q (omega arith) (not-vacant xs u _ (stuck e q l)))) in
+        omega (arith, length-map (map (λ x. x.tag.0) xs) steps_to, length-map xs (λ x. x.tag.0)))
   ]
+    where
+      r : Reaches candidates xs u from result
+      r = reaches candidates xs u from fits
 
-  pub first-vacant : from < 0x10000 → length xs ≡ line_max → NextTag (λ (tag : ℕ). (j : ℕ) × Owns xs u tag j) from result
-  first-vacant h n =
-      let r = reaches candidates xs u from h in
-      let v = is-vacant xs u result (ends r n) in
+      stuck : vacant xs u result ≡ false → (i : ℕ) → i < 18 → vacant xs u (wrapped (from + i)) ≡ false
+      stuck e i l = elim (cases_lt i r.steps) [
+        | inl b ↦ r.passed i b
+        | inr b ↦ (let late : r.steps < candidates → ⊥ = λ h. true≢false (sym (r.early h) ∙ e) in
+            let q : i ≡ r.steps = omega (arith, r.within) in
+            ap (λ n. vacant xs u (wrapped (from + n))) q ∙ ap (vacant xs u) (sym r.there) ∙ e)
+      ]
+
+  pub first-vacant : NextTag (λ (tag : ℕ). (j : ℕ) × Owns xs u tag j) from result
+  first-vacant =
+      let r = reaches candidates xs u from fits in
+      let v = is-vacant xs u result found-vacant in
       record {
         nonzero = v.0;
         vacant = λ o. v.1 o.0 o.1;
         steps = r.steps;
         there = r.there;
-        passed = λ m l. not-vacant xs u (wrapped (from + m)) (r.passed m l);
+        passed = λ m l. not-vacant xs u _ (r.passed m l);
       }
+
+  -- each number that is passed leads nearer to it
+  pub fresh-nearer : (tag next : ℕ) → tag < 0x10000 → vacant xs u tag ≡ false → next ≡ wrapped (tag + 1)
+      → (result + 0x10000 - next) % 0x10000 < (result + 0x10000 - tag) % 0x10000
+  fresh-nearer tag next h e n =
+      let other : tag ≡ result → ⊥ = λ q. true≢false (sym found-vacant ∙ ap (vacant xs u) (sym q) ∙ e) in
+      omega (arith, first-vacant.there)

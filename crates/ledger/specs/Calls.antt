@@ -1,17 +1,17 @@
 -- What each call of a ledger answers, and the ledger afterwards: 02 §2, for whatever numbers a ledger holds.
 -- Assumes nothing.
-use Rattle.std.specs.Prelude.{ℕ, ◌+◌, ◌-◌, ◌^◌, cond, not, ◌&&◌, ◌||◌, eqb, replicate, set}
-use Rattle.std.proofs.Math.Option.{Option, none, some}
+use Rattle.std.specs.Prelude.{ℕ, ◌+◌, ◌-◌, ◌^◌, cond, not, ◌&&◌, ◌||◌, eqb, replicate, set, Option, Some, None, Result, Ok, Err}
 use Rattle.std.specs.Int.Count.{ones}
 use Rattle.status.specs.Numbers.{TYPE, LEDGER}
-use Rattle.status.specs.Result.{Result, took, refused_with}
+use Rattle.status.specs.Result.{Result as Returned, took, refused_with}
 use Rattle.kind.specs.Kinds.{is_command, TX, OK, ERR, RX}
 use Rattle.ledger.specs.declared.DongleTag.{DongleTag}
 use Rattle.ledger.specs.declared.Line.{Line}
 use Rattle.ledger.specs.declared.Ledger.{Ledger}
 use Rattle.ledger.specs.declared.Report.{Report}
-use Rattle.ledger.specs.declared.Opened.{Opened}
-use Rattle.ledger.specs.declared.Opened.TheVariants as O
+use Rattle.ledger.specs.declared.Place.{Place}
+use Rattle.ledger.specs.declared.OpenError.{OpenError}
+use Rattle.ledger.specs.declared.OpenError.TheVariants as E
 use Rattle.ledger.specs.declared.Verdict.{Verdict}
 use Rattle.ledger.specs.declared.Verdict.TheVariants as J
 use Rattle.ledger.specs.Digits.{lowest}
@@ -30,37 +30,39 @@ fresh_tag l = first_vacant candidates l.lines l.used l.counter
 abbrev pub lowest_free : Ledger → ℕ
 lowest_free l = lowest line_max l.used
 
+abbrev pub next_place : Ledger → Place
+next_place l = record { tag = record { 0 = fresh_tag l }; line = lowest_free l }
+
 -- LEDGER exactly when sixteen lines are open; then TYPE for what is none of the six commands
-unfoldable pub open_answer : Ledger → ℕ → Opened
+unfoldable pub open_answer : Ledger → ℕ → Result Place OpenError
 open_answer l command =
-    cond (eqb (ones l.used) line_max) O.Full
-    (cond (is_command command) (O.Line (record { 0 = fresh_tag l }) (lowest_free l))
-    O.Type)
+    cond (eqb (ones l.used) line_max) (Err E.Full)
+    (cond (is_command command) (Ok (next_place l))
+    (Err E.Type))
+
+-- the number of a refusal
+abbrev pub open_number : OpenError → ℕ
+open_number E.Full = LEDGER
+open_number E.Type = TYPE
 
 -- the number that comes back, and with it the tag and the line
-pub record Place : Type 0 where
-  pub tag : ℕ
-  pub line : ℕ
+abbrev pub opened_result : Result Place OpenError → Returned Place
+opened_result (Ok p) = took p
+opened_result (Err e) = refused_with (open_number e)
 
-abbrev pub opened_result : Opened → Result Place
-opened_result O.Full = refused_with LEDGER
-opened_result O.Type = refused_with TYPE
-opened_result (O.Line t k) = took record { tag = t.0; line = k }
-
--- line k is taken: the counter stands after the tag
-abbrev pub taken : Ledger → ℕ → DongleTag → ℕ → Ledger
-taken l command t k =
+-- a line is taken: the counter stands after the tag
+abbrev pub taken : Ledger → ℕ → Place → Ledger
+taken l command p =
     record {
-      counter = wrapped (t.0 + 1);
-      used = l.used + 2 ^ k;
-      lines = set l.lines k (record { tag = t; command = command; accepted = 0 });
+      counter = wrapped (p.tag.0 + 1);
+      used = l.used + 2 ^ p.line;
+      lines = set l.lines p.line (record { tag = p.tag; command = command; accepted = 0 });
     }
 
 -- the ledger afterwards: a refusal changes nothing, the counter included
-abbrev pub open_left : Ledger → ℕ → Opened → Ledger
-open_left l command O.Full = l
-open_left l command O.Type = l
-open_left l command (O.Line t k) = taken l command t k
+abbrev pub open_left : Ledger → ℕ → Result Place OpenError → Ledger
+open_left l command (Ok p) = taken l command p
+open_left l command (Err e) = l
 
 -- ---- an answer: type and tag decide
 
@@ -69,8 +71,8 @@ unfoldable pub verdict_at : Line → ℕ → ℕ → Verdict
 verdict_at x k kind = cond (awaits x kind) (J.Fits x.command k (not (eqb x.command TX) || not (eqb kind OK))) J.Unexpected
 
 abbrev pub verdict_by : Ledger → ℕ → Option ℕ → Verdict
-verdict_by l kind none = J.Unexpected
-verdict_by l kind (some k) = verdict_at (line_at l k) k kind
+verdict_by l kind None = J.Unexpected
+verdict_by l kind (Some k) = verdict_at (line_at l k) k kind
 
 -- an RX answers nobody, nor does an ERR with tag zero; and zero is no tag of a command
 unfoldable pub verdict_of : Ledger → ℕ → DongleTag → Verdict
@@ -78,12 +80,6 @@ verdict_of l kind t =
     cond (eqb kind RX || (eqb kind ERR && eqb t.0 0)) J.Nobody
     (cond (eqb t.0 0) J.Unexpected
     (verdict_by l kind (owner l.lines l.used t.0)))
-
--- the line that an answer fits
-abbrev pub line_of : Verdict → Option ℕ
-line_of J.Unexpected = none
-line_of J.Nobody = none
-line_of (J.Fits command k closed) = some k
 
 -- the numbers of a verdict
 abbrev pub UNEXPECTED : ℕ

@@ -5,14 +5,15 @@ use Rattle.std.specs.Prelude.{◌≡◌, Bool, true, false, cond, ◌&&◌, ◌|
 use Rattle.std.proofs.Math.Option.{Option, none, some}
 use Rattle.std.specs.Int.Count.{ones}
 use Rattle.status.specs.Numbers.{TYPE, LEDGER}
-use Rattle.status.specs.Result.{Result, took, refused_with}
+use Rattle.status.specs.Result.{Result as Returned, took, refused_with}
 use Rattle.kind.specs.Kinds.{is_command, TX, OK, ERR, RX, TX_DONE}
 use Rattle.ledger.specs.declared.Line.{Line}
 use Rattle.ledger.specs.declared.Ledger.{Ledger}
+use Rattle.ledger.specs.declared.Place.{Place}
 use Rattle.ledger.specs.declared.Report.{Report}
 use Rattle.ledger.specs.Digits.{digit}
 use Rattle.ledger.specs.Lines.{line_max, no_line, wrapped}
-use Rattle.ledger.specs.Calls.{new_ledger, Place, open_answer, opened_result, open_left}
+use Rattle.ledger.specs.Calls.{new_ledger, open_answer, opened_result, open_left}
 use Rattle.ledger.specs.Calls.{verdict_of, UNEXPECTED, NOBODYS, FITS, verdict_report, answer_left, connected}
 
 -- ---- of every ledger
@@ -47,11 +48,11 @@ pub record LowestLine (isOpen : ℕ → Type 0) (line : ℕ) : Type 0 where
   pub lower : (j : ℕ) → j < line → isOpen j
 
 -- what comes back of a command, where so many are open, the next tag is looked for from a number on, and these tags and lines are open
-pub record OpenRight (count from : ℕ) (TagOpen LineOpen : ℕ → Type 0) (command : ℕ) (r : Result Place) : Type 0 where
+pub record OpenRight (count from : ℕ) (TagOpen LineOpen : ℕ → Type 0) (command : ℕ) (r : Returned Place) : Type 0 where
   pub full : count ≡ line_max → r ≡ refused_with LEDGER
   pub type : (count ≡ line_max → ⊥) → is_command command ≡ false → r ≡ refused_with TYPE
   pub given : (count ≡ line_max → ⊥) → is_command command ≡ true
-      → (p : Place) × (r ≡ took p) × NextTag TagOpen from p.tag × LowestLine LineOpen p.line
+      → (p : Place) × (r ≡ took p) × NextTag TagOpen from p.tag.0 × LowestLine LineOpen p.line
 
 abbrev pub TagOpen : Ledger → ℕ → Type 0
 TagOpen l tag = (j : ℕ) × OwnsIn l tag j
@@ -62,7 +63,7 @@ LineOpen l j = digit l.used j ≡ 1
 -- the law of every ledger; and where a tag was given, the counter then stands after it
 pub record OpensRight (l : Ledger) (command : ℕ) : Type 0 where
   pub right : OpenRight (ones l.used) l.counter (TagOpen l) (LineOpen l) command (opened_result (open_answer l command))
-  pub stands : (p : Place) → opened_result (open_answer l command) ≡ took p → (open_left l command (open_answer l command)).counter ≡ wrapped (p.tag + 1)
+  pub stands : (p : Place) → opened_result (open_answer l command) ≡ took p → (open_left l command (open_answer l command)).counter ≡ wrapped (p.tag.0 + 1)
 
 -- open lines have different tags
 abbrev pub Distinct : Ledger → Type 0
@@ -76,7 +77,7 @@ pub data Call : Type 0 where
   connects : Call
 
 pub data Reply : Type 0 where
-  place : Result Place → Reply
+  place : Returned Place → Reply
   report : Report → Reply
   nothing : Reply
 
@@ -119,9 +120,9 @@ abbrev opened_by : ℕ → Option Place → Observer → Observer
 opened_by command none k = k
 opened_by command (some p) k =
     record {
-      owner = put p.tag (some record { command = command; line = p.line; accepted = false }) k.owner;
+      owner = put p.tag.0 (some record { command = command; line = p.line; accepted = false }) k.owner;
       count = k.count + 1;
-      next = wrapped (p.tag + 1);
+      next = wrapped (p.tag.0 + 1);
     }
 
 -- what an answer of a type does to the open command that has its tag
@@ -187,7 +188,7 @@ LineKnown k j = (tag : ℕ) × (c : OpenCommand) × (k.owner tag ≡ some c) × 
 
 -- what the observer foresees
 abbrev pub Foreseen : Observer → Call → Reply → Type 0
-Foreseen k (opens command) r = (p : Result Place) × (r ≡ place p) × OpenRight k.count k.next (TagKnown k) (LineKnown k) command p
+Foreseen k (opens command) r = (p : Returned Place) × (r ≡ place p) × OpenRight k.count k.next (TagKnown k) (LineKnown k) command p
 Foreseen k (hears kind tag) r = r ≡ report (report_due kind tag k)
 Foreseen k connects r = r ≡ nothing
 

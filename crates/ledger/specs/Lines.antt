@@ -1,10 +1,7 @@
 -- The lines of a ledger, and the tags that it gives: 02 §2.
 -- Assumes nothing.
-use Rattle.std.specs.Prelude.{ℕ, zero, suc, ◌+◌, ◌/◌, ◌%◌, ◌<◌, Bool, true, false, cond, not, ◌&&◌, ◌||◌, List, [], ◌∷◌, eqb, get_or}
-use Rattle.std.proofs.Math.Option.{Option, none, some}
+use Rattle.std.specs.Prelude.{ℕ, zero, suc, ◌+◌, ◌/◌, ◌%◌, Bool, cond, not, ◌&&◌, ◌||◌, List, [], ◌∷◌, eqb, get_or, Option, Some, None, is_none}
 use Rattle.kind.specs.Kinds.{TX, OK, ERR, TX_DONE}
-use Rattle.ledger.specs.declared.Found.{Found}
-use Rattle.ledger.specs.declared.Found.TheVariants as F
 use Rattle.ledger.specs.declared.Line.{Line}
 use Rattle.ledger.specs.declared.Ledger.{Ledger}
 
@@ -26,31 +23,17 @@ has_tag tag x u = eqb (u % 2) 1 && eqb x.tag.0 tag
 
 -- the lowest that is open and has the tag, of lines from number n on: the lowest digit of u is the first one's
 unfoldable pub owner_from : ℕ → List Line → ℕ → ℕ → Option ℕ
-owner_from n [] u tag = none
-owner_from n (x ∷ xs) u tag = cond (has_tag tag x u) (some n) (owner_from (suc n) xs (u / 2) tag)
+owner_from n [] u tag = None
+owner_from n (x ∷ xs) u tag = cond (has_tag tag x u) (Some n) (owner_from (suc n) xs (u / 2) tag)
 
 abbrev pub owner : List Line → ℕ → ℕ → Option ℕ
 owner lines used tag = owner_from 0 lines used tag
-
--- a line that was found is one of so many
-abbrev pub Below : ℕ → Option ℕ → Type 0
-Below n none = Unit
-Below n (some k) = k < n
-
--- what a search found, as the code has it
-abbrev pub found_in : Found → Option ℕ
-found_in F.Nothing = none
-found_in (F.Line n) = some n
 
 -- ---- the next tag
 
 -- after 0xFFFF comes 0
 abbrev pub wrapped : ℕ → ℕ
 wrapped n = n % 0x10000
-
-abbrev pub is_none : {A : Type 0} → Option A → Bool
-is_none none = true
-is_none (some a) = false
 
 -- a tag that can be given: not zero, and that of no open line
 unfoldable pub vacant : List Line → ℕ → ℕ → Bool

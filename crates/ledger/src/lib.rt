@@ -1,26 +1,28 @@
 // The host's ledger of open tags: 02 §2. A host has its tags from here, and learns here which command
-// an answer belongs to. The ledger is a value: each call takes one and gives back the next.
+// an answer belongs to. The ledger is a value: each call takes one and gives back the next, since 01 wants
+// thin functions that are lent it by &mut over others that have it by value.
 #![tactic(auto)]
 
-ghost use Rattle.std.specs.Prelude.{◌≡◌, ◌+◌, ◌-◌, ◌^◌, ◌<◌, get_or};
+ghost use Rattle.std.specs.Prelude.{◌≡◌, ◌+◌, ◌/◌, ◌^◌, ◌<◌};
 ghost use Rattle.std.specs.Int.Count.{ones};
 ghost use Rattle.ledger.specs.Digits.{digit, lowest};
-ghost use Rattle.ledger.specs.Lines.{line_max, Below, no_line, has_tag, owner, found_in, wrapped, vacant, first_vacant, candidates, awaits};
-ghost use Rattle.ledger.specs.Calls.{new_ledger, open_answer, opened_result, taken, open_left};
-ghost use Rattle.ledger.specs.Calls.{verdict_at, verdict_of, line_of, verdict_report, freed, marked, answer_left, connected};
+ghost use Rattle.ledger.specs.Lines.{line_max, has_tag, owner, wrapped, vacant, first_vacant, candidates, awaits};
+ghost use Rattle.ledger.specs.Calls.{open_number, new_ledger, open_answer, taken, open_left};
+ghost use Rattle.ledger.specs.Calls.{verdict_at, verdict_of, verdict_report, freed, marked, answer_left, connected};
 
 use kind::{ERR, OK, RX, TX, TX_DONE};
+use status::{LEDGER, TYPE};
 
 // How many commands can be open at a time.
 pub const LINES: usize = 16;
 
 // A tag that the dongle sees.
 #[repr(C)]
-#[derive(Clone, Copy)]
+#[derive(Clone, Copy, PartialEq, Eq, Debug)]
 pub struct DongleTag(pub u16);
 
 // An open command: its tag, its type, and 1 where it is a TX that has its OK. Of a free line this says
-// nothing.
+// nothing. `accepted` is a number, and in the ledger `used`, since C lends the words that they lie in.
 #[repr(C)]
 #[derive(Clone, Copy)]
 pub struct Line {
@@ -38,26 +40,43 @@ pub struct Ledger {
     pub lines: [Line; LINES],
 }
 
-// What opening a command answers.
-#[derive(Clone, Copy)]
-pub enum Opened {
+// What a command has that is opened: its tag, and its line.
+#[derive(Clone, Copy, PartialEq, Eq, Debug)]
+pub struct Place {
+    pub tag: DongleTag,
+    pub line: u8,
+}
+
+// Why a command is not opened.
+#[derive(Clone, Copy, PartialEq, Eq, Debug)]
+pub enum OpenError {
     // All lines are open: LEDGER.
     Full,
     // It is none of the six commands: TYPE.
     Type,
-    // It has this tag, and this line.
-    Line { tag: DongleTag, line: u8 },
 }
 
-// The ledger after a command, and what came back.
+// The number that comes back.
+impl From<OpenError> for u8 {
+    ghost from_gives = { λ e n. n ≡ open_number e };
+
+    fn from(e: OpenError) -> u8 {
+        match e {
+            OpenError::Full => LEDGER,
+            OpenError::Type => TYPE,
+        }
+    }
+}
+
+// The ledger after a command, and what came back: by value, as 01 wants it.
 #[derive(Clone, Copy)]
 pub struct Opening {
     pub ledger: Ledger,
-    pub opened: Opened,
+    pub opened: Result<Place, OpenError>,
 }
 
 // What an answer of the dongle is to the ledger.
-#[derive(Clone, Copy)]
+#[derive(Clone, Copy, PartialEq, Eq, Debug)]
 pub enum Verdict {
     // No open command waits for it.
     Unexpected,
@@ -67,72 +86,76 @@ pub enum Verdict {
     Fits { command: u8, line: u8, closed: bool },
 }
 
-// The ledger after an answer, and what came back.
+// The ledger after an answer, and what came back: by value, as 01 wants it.
 #[derive(Clone, Copy)]
 pub struct Answering {
     pub ledger: Ledger,
     pub verdict: Verdict,
 }
 
-// The line that a search found.
+// The numbers of a verdict, as C has them.
+pub const UNEXPECTED: u8 = 0;
+
+pub const NOBODYS: u8 = 1;
+
+pub const FITS: u8 = 2;
+
+// A verdict in numbers, since C reads it: struct donglora_report. Where the answer does not fit, the other
+// fields are 0.
+#[repr(C)]
 #[derive(Clone, Copy)]
-pub enum Found {
-    Nothing,
-    Line(u8),
+pub struct Report {
+    pub verdict: u8,
+    pub command: u8,
+    pub line: u8,
+    pub closed: u8,
+}
+
+// What C is told of a verdict.
+impl From<Verdict> for Report {
+    ghost from_gives = { λ v r. r ≡ verdict_report v };
+
+    fn from(v: Verdict) -> Report {
+        let none = Report {
+            verdict: UNEXPECTED,
+            command: 0,
+            line: 0,
+            closed: 0,
+        };
+        match v {
+            Verdict::Unexpected => none,
+            Verdict::Nobody => Report {
+                verdict: NOBODYS,
+                ..none
+            },
+            Verdict::Fits {
+                command,
+                line,
+                closed,
+            } => Report {
+                verdict: FITS,
+                command,
+                line,
+                closed: closed as u8,
+            },
+        }
+    }
 }
 
 // A ledger with no open command, whose first tag is 1.
+#[tactic(auto, unfolding(crate::specs::Calls::new_ledger))]
 pub fn new() -> Ledger
     ensures { result ≡ new_ledger }
 {
-    let tag = DongleTag(0);
+    let free = Line {
+        tag: DongleTag(0),
+        command: 0,
+        accepted: 0,
+    };
     Ledger {
         counter: 1,
         used: 0,
-        lines: [Line {
-            tag,
-            command: 0,
-            accepted: 0,
-        }; LINES],
-    }
-}
-
-// The lowest open line that has a tag.
-fn owner_of(lines: [Line; LINES], used: u16, tag: DongleTag) -> Found
-    ensures result_value { found_in result ≡ owner lines used tag.0 }
-    ensures below { Below line_max (found_in result) }
-{
-    let mut u = used;
-    let mut i: usize = 0;
-    while u != 0 {
-        let x = lines[i];
-        if has_tag(x, u, tag) {
-            return Found::Line(i as u8);
-        }
-        u = u / 2;
-        i = i + 1;
-    }
-    Found::Nothing
-}
-
-// Whether a line has a tag and is open, which the lowest bit of u says.
-fn has_tag(x: Line, u: u16, tag: DongleTag) -> bool
-    ensures { result ≡ has_tag tag.0 x u }
-{
-    let own = x.tag;
-    (u % 2 == 1) & (own.0 == tag.0)
-}
-
-// Whether a tag can be given: it is not zero, and no open line has it.
-fn is_vacant(lines: [Line; LINES], used: u16, tag: u16) -> bool
-    ensures { result ≡ vacant lines used tag }
-{
-    if tag == 0 {
-        return false;
-    }
-    match owner_of(lines, used, DongleTag(tag)) {
-        Found::Nothing => true,
-        Found::Line(_) => false,
+        lines: [free; LINES],
     }
 }
 
@@ -140,23 +163,7 @@ fn is_vacant(lines: [Line; LINES], used: u16, tag: u16) -> bool
 fn after(tag: u16) -> u16
     ensures { result ≡ wrapped (tag + 1) }
 {
-    if tag < 0xFFFF { tag + 1 } else { 0 }
-}
-
-// The first vacant tag from the counter on. Zero and sixteen open lines leave one of 18 numbers.
-fn fresh(lines: [Line; LINES], used: u16, counter: u16) -> DongleTag
-    ensures { result.0 ≡ first_vacant candidates lines used counter }
-{
-    let mut tag = counter;
-    let mut left = LINES + 1;
-    while 0 < left {
-        if is_vacant(lines, used, tag) {
-            return DongleTag(tag);
-        }
-        tag = after(tag);
-        left = left - 1;
-    }
-    DongleTag(tag)
+    tag.wrapping_add(1)
 }
 
 // The lowest free line, where there is one.
@@ -164,14 +171,14 @@ fn lowest_free(used: u16) -> u8
     requires { used < 0xFFFF }
     ensures { (result ≡ lowest line_max used) × (result < line_max) × (digit used result ≡ 0) }
 {
-    u16::trailing_zeros(!used) as u8
+    (!used).trailing_zeros() as u8
 }
 
 // How many lines are open.
 fn open_lines(used: u16) -> usize
     ensures { result ≡ ones used }
 {
-    u16::count_ones(used) as usize
+    used.count_ones() as usize
 }
 
 // The bit of a line.
@@ -182,178 +189,181 @@ fn bit(line: u8) -> u16
     1 << line
 }
 
-// The ledger where a command has taken a free line.
-fn take(l: Ledger, command: u8, tag: DongleTag, line: u8) -> Ledger
-    requires { (line < line_max) × (digit l.used line ≡ 0) }
-    ensures { result ≡ taken l command tag line }
-{
-    let mut lines = l.lines;
-    lines[line as usize] = Line {
-        tag,
-        command,
-        accepted: 0,
-    };
-    Ledger {
-        counter: after(tag.0),
-        used: l.used + bit(line),
-        lines,
+impl Line {
+    // Whether it has a tag and is open, which the lowest bit of u says.
+    #[tactic(auto, unfolding(crate::specs::Lines::has_tag))]
+    fn has_tag(&self, u: u16, tag: DongleTag) -> bool
+        ensures { result ≡ has_tag tag.0 self.now u }
+    {
+        u % 2 == 1 && self.tag == tag
+    }
+
+    // Whether it waits for answers of a type: an accepted TX for a TX_DONE, all others for OK or ERR.
+    #[tactic(auto, unfolding(crate::specs::Lines::awaits))]
+    fn waits_for(&self, kind: u8) -> bool
+        ensures { result ≡ awaits self.now kind }
+    {
+        if self.command == TX && self.accepted == 1 {
+            kind == TX_DONE
+        } else {
+            matches!(kind, OK | ERR)
+        }
+    }
+
+    // What an answer with its tag is to it.
+    #[tactic(auto, unfolding(crate::specs::Calls::verdict_at))]
+    fn judge(&self, line: u8, kind: u8) -> Verdict
+        ensures { result ≡ verdict_at self.now line kind }
+    {
+        if !self.waits_for(kind) {
+            return Verdict::Unexpected;
+        }
+        Verdict::Fits {
+            command: self.command,
+            line,
+            closed: self.command != TX || kind != OK,
+        }
+    }
+}
+
+// What opening a command asks has the ledger by value: by reference, tried, `donglora_ledger_open` takes 80 bytes of
+// stack more and is slower.
+impl Ledger {
+    // The lowest open line that has a tag. Lines past the highest open one are not looked at: with all sixteen, tried,
+    // the compiler unrolls the loop, and it is slower.
+    fn owner_of(&self, tag: DongleTag) -> Option<u8>
+        ensures { result ≡ owner self.now.lines self.now.used tag.0 }
+    {
+        let end = LINES - self.used.leading_zeros() as usize;
+        for (i, x) in self.lines[..end].iter().enumerate() {
+            if x.has_tag(self.used >> i, tag) {
+                return Some(i as u8);
+            }
+        }
+        None
+    }
+
+    // Whether a tag can be given: it is not zero, and no open line has it.
+    #[tactic(auto, unfolding(crate::specs::Lines::vacant))]
+    fn is_vacant(self, tag: u16) -> bool
+        ensures { result ≡ vacant self.lines self.used tag }
+    {
+        tag != 0 && self.owner_of(DongleTag(tag)).is_none()
+    }
+
+    // The first vacant tag from the counter on: of 18 numbers zero and sixteen open lines leave one.
+    fn fresh(self) -> DongleTag
+        ensures { result.0 ≡ first_vacant candidates self.lines self.used self.counter }
+    {
+        let mut tag = self.counter;
+        while !self.is_vacant(tag) {
+            tag = after(tag);
+        }
+        DongleTag(tag)
+    }
+
+    // The place that a command gets, or why it gets none.
+    #[tactic(auto, unfolding(crate::specs::Calls::open_answer))]
+    fn next_place(self, command: u8) -> Result<Place, OpenError>
+        ensures { result ≡ open_answer self command }
+    {
+        if open_lines(self.used) == LINES {
+            return Err(OpenError::Full);
+        }
+        if !kind::is_command(command) {
+            return Err(OpenError::Type);
+        }
+        Ok(Place {
+            tag: self.fresh(),
+            line: lowest_free(self.used),
+        })
+    }
+
+    // The ledger where a command has taken a free line.
+    fn take(self, command: u8, place: Place) -> Ledger
+        requires { (place.line < line_max) × (digit self.used place.line ≡ 0) }
+        ensures { result ≡ taken self command place }
+    {
+        let mut lines = self.lines;
+        lines[place.line as usize] = Line {
+            tag: place.tag,
+            command,
+            accepted: 0,
+        };
+        Ledger {
+            counter: after(place.tag.0),
+            used: self.used + bit(place.line),
+            lines,
+        }
+    }
+
+    // An open line is closed.
+    fn free_line(&mut self, line: u8)
+        requires { (line < line_max) × (digit self.old.used line ≡ 1) }
+        ensures { self.new ≡ freed self.old line }
+    {
+        self.used -= bit(line);
+    }
+
+    // A line is marked as accepted.
+    fn mark(&mut self, line: u8)
+        requires { line < line_max }
+        ensures { self.new ≡ marked self.old line }
+    {
+        self.lines[line as usize].accepted = 1;
+    }
+
+    // What an answer is to it.
+    #[tactic(auto, unfolding(crate::specs::Calls::verdict_of))]
+    fn judge(&self, kind: u8, tag: DongleTag) -> Verdict
+        ensures { result ≡ verdict_of self.now kind tag }
+    {
+        if kind == RX || kind == ERR && tag.0 == 0 {
+            return Verdict::Nobody;
+        }
+        if tag.0 == 0 {
+            return Verdict::Unexpected;
+        }
+        match self.owner_of(tag) {
+            Some(line) => self.lines[line as usize].judge(line, kind),
+            None => Verdict::Unexpected,
+        }
     }
 }
 
 // Opens a command: it takes the lowest free line and the next vacant tag.
 pub fn open(l: Ledger, command: u8) -> Opening
-    ensures { (opened_result result.opened ≡ opened_result (open_answer l command)) × (result.ledger ≡ open_left l command (open_answer l command)) }
+    ensures { (result.opened ≡ open_answer l command) × (result.ledger ≡ open_left l command (open_answer l command)) }
 {
-    let used = l.used;
-    if open_lines(used) == LINES {
-        return Opening {
-            ledger: l,
-            opened: Opened::Full,
-        };
-    }
-    if !kind::is_command(command) {
-        return Opening {
-            ledger: l,
-            opened: Opened::Type,
-        };
-    }
-    let lines = l.lines;
-    let counter = l.counter;
-    let line = lowest_free(used);
-    let tag = fresh(lines, used, counter);
-    let ledger = take(l, command, tag, line);
-    Opening {
-        ledger,
-        opened: Opened::Line { tag, line },
-    }
-}
-
-// Whether a line waits for answers of a type: an accepted TX for a TX_DONE, all others for OK or ERR.
-fn waits_for(x: Line, kind: u8) -> bool
-    ensures { result ≡ awaits x kind }
-{
-    if (x.command == TX) & (x.accepted == 1) {
-        return kind == TX_DONE;
-    }
-    (kind == OK) | (kind == ERR)
-}
-
-// The ledger with an open line closed.
-fn free_line(l: Ledger, line: u8) -> Ledger
-    requires { (line < line_max) × (digit l.used line ≡ 1) }
-    ensures { result ≡ freed l line }
-{
-    let lines = l.lines;
-    Ledger {
-        counter: l.counter,
-        used: l.used - bit(line),
-        lines,
-    }
-}
-
-// The ledger with a line marked as accepted.
-fn mark(l: Ledger, line: u8) -> Ledger
-    requires { line < line_max }
-    ensures { result ≡ marked l line }
-{
-    let mut lines = l.lines;
-    let x = lines[line as usize];
-    let tag = x.tag;
-    lines[line as usize] = Line {
-        tag,
-        command: x.command,
-        accepted: 1,
+    let opened = l.next_place(command);
+    let ledger = match opened {
+        Ok(place) => l.take(command, place),
+        Err(_) => l,
     };
-    Ledger {
-        counter: l.counter,
-        used: l.used,
-        lines,
-    }
-}
-
-// What an answer is to the ledger.
-fn judge(l: Ledger, kind: u8, tag: DongleTag) -> Verdict
-    ensures value { result ≡ verdict_of l kind tag }
-    ensures below { Below line_max (line_of result) }
-{
-    if (kind == RX) | ((kind == ERR) & (tag.0 == 0)) {
-        return Verdict::Nobody;
-    }
-    if tag.0 == 0 {
-        return Verdict::Unexpected;
-    }
-    let lines = l.lines;
-    match owner_of(lines, l.used, tag) {
-        Found::Nothing => Verdict::Unexpected,
-        Found::Line(line) => judge_line(lines, line, kind),
-    }
-}
-
-// What an answer is to the line that has its tag.
-fn judge_line(lines: [Line; LINES], line: u8, kind: u8) -> Verdict
-    requires { line < line_max }
-    ensures value { result ≡ verdict_at (get_or lines line no_line) line kind }
-    ensures below { Below line_max (line_of result) }
-{
-    let x = lines[line as usize];
-    if waits_for(x, kind) {
-        return Verdict::Fits {
-            command: x.command,
-            line,
-            closed: (x.command != TX) | (kind != OK),
-        };
-    }
-    Verdict::Unexpected
+    Opening { ledger, opened }
 }
 
 // Takes an answer of the dongle: its type and its tag tell which command it belongs to.
-pub fn answer(l: Ledger, kind: u8, tag: DongleTag) -> Answering
-    ensures { (verdict_report result.verdict ≡ verdict_report (verdict_of l kind tag)) × (result.ledger ≡ answer_left l (verdict_of l kind tag)) }
+pub fn answer(mut l: Ledger, kind: u8, tag: DongleTag) -> Answering
+    ensures { (result.verdict ≡ verdict_of l kind tag) × (result.ledger ≡ answer_left l (verdict_of l kind tag)) }
 {
-    let verdict = judge(l, kind, tag);
+    let verdict = l.judge(kind, tag);
     match verdict {
-        Verdict::Fits {
-            command: _,
-            line,
-            closed,
-        } => {
+        Verdict::Fits { line, closed, .. } => {
             if closed {
-                let ledger = free_line(l, line);
-                return Answering { ledger, verdict };
+                l.free_line(line);
+            } else {
+                l.mark(line);
             }
-            let ledger = mark(l, line);
-            Answering { ledger, verdict }
         }
-        Verdict::Nobody => Answering { ledger: l, verdict },
-        Verdict::Unexpected => Answering { ledger: l, verdict },
+        Verdict::Nobody | Verdict::Unexpected => {}
     }
+    Answering { ledger: l, verdict }
 }
 
 // A new connection: all lines are free, and the counter goes on.
 pub fn connect(was: Ledger) -> Ledger
     ensures { result ≡ connected was }
 {
-    let lines = was.lines;
-    Ledger {
-        counter: was.counter,
-        used: 0,
-        lines,
-    }
-}
-
-// The numbers of a verdict.
-pub const UNEXPECTED: u8 = 0;
-
-pub const NOBODYS: u8 = 1;
-
-pub const FITS: u8 = 2;
-
-// A verdict in numbers, for C: struct donglora_report. Where the answer does not fit, the other fields are 0.
-#[repr(C)]
-#[derive(Clone, Copy)]
-pub struct Report {
-    pub verdict: u8,
-    pub command: u8,
-    pub line: u8,
-    pub closed: u8,
+    Ledger { used: 0, ..was }
 }
