@@ -10,170 +10,102 @@ use slot::COMMANDS;
 // More output than this is not lent, or shown: no event tells the difference.
 pub(crate) const ROOM_MAX: usize = 4096;
 
-// Where a replay stands: the device, how many events there were, and how much output is lent.
-#[derive(Clone, Copy)]
+// A device with its memories, how many events it had, and how much output is lent.
+#[derive(Drop)]
 pub(crate) struct Replay {
-    pub(crate) device: Device,
-    pub(crate) events: u64,
-    pub(crate) room: usize,
+    device: Device,
+    run: [u8; RUN_MAX],
+    commands: [u8; COMMANDS],
+    packets: [u8; PACKETS],
+    out: [u8; ROOM_MAX],
+    events: u64,
+    room: usize,
 }
 
-// A replay at its start.
-pub(crate) fn start() -> Replay {
-    Replay {
-        device: control::power_up(),
-        events: 0,
-        room: ROOM_MIN,
+impl Replay {
+    // A replay at its start.
+    pub(crate) fn new() -> Replay {
+        Replay {
+            device: control::power_up(),
+            run: [0; RUN_MAX],
+            commands: [0; COMMANDS],
+            packets: [0; PACKETS],
+            out: [0; ROOM_MAX],
+            events: 0,
+            room: ROOM_MIN,
+        }
     }
-}
 
-// One more. No script has 2^64 events or lines.
-pub(crate) fn more(n: u64) -> u64 {
-    if n == 0xFFFFFFFFFFFFFFFF {
-        return n;
+    // Starts again, from power-up on.
+    pub(crate) fn restart(&mut self) {
+        self.device = control::power_up();
+        self.events = 0;
+        self.room = ROOM_MIN;
     }
-    n + 1
-}
 
-// The output that is lent.
-fn lent(out: &mut [u8], room: usize) -> &mut [u8] {
-    if room < out.len() {
-        return &mut out[..room];
+    // How many events there were.
+    pub(crate) fn events(&self) -> u64 {
+        self.events
     }
-    out
-}
 
-// An event is run, and its answer is noted; bytes are those of a packet.
-fn step(
-    rt: &(impl Print + Eprint),
-    s: Replay,
-    e: Event,
-    bytes: &[u8],
-    run: &mut [u8; RUN_MAX],
-    commands: &mut [u8; COMMANDS],
-    packets: &mut [u8; PACKETS],
-    out: &mut [u8],
-) -> Replay {
-    let d = s.device;
-    let a = machine::step(d, e, bytes, run, commands, packets, lent(out, s.room));
-    print::note(rt, s.events, a, commands, out);
-    let device = a.device;
-    Replay {
-        device,
-        events: more(s.events),
-        room: s.room,
+    // An event is run, and its answer is noted; bytes are those of a packet. No script has 2^64 events.
+    fn step(&mut self, rt: &(impl Print + Eprint), e: Event, bytes: &[u8]) {
+        let room = self.room.min(ROOM_MAX);
+        let out = &mut self.out[..];
+        let a = machine::step(
+            self.device,
+            e,
+            bytes,
+            &mut self.run,
+            &mut self.commands,
+            &mut self.packets,
+            &mut out[..room],
+        );
+        print::note(rt, self.events, a, &self.commands, &self.out);
+        self.device = a.device;
+        self.events = self.events.saturating_add(1);
     }
-}
 
-// So much output is lent from here on.
-fn room(s: Replay, n: u64) -> Replay {
-    let device = s.device;
-    let mut lent = ROOM_MAX;
-    if n < (ROOM_MAX as u64) {
-        lent = n as usize;
-    }
-    Replay {
-        device,
-        events: s.events,
-        room: lent,
-    }
-}
-
-// How many events a line has; all are its bytes.
-fn count(item: Item, all: &[u8]) -> u64 {
-    match item {
-        Item::Nothing => 0,
-        Item::Bytes(_) => all.len() as u64,
-        Item::Ticks(n) => n,
-        Item::Room(_) => 0,
-        Item::Bad => 0,
-        _ => 1,
-    }
-}
-
-// The byte at index i; 0 past the end.
-fn byte_at(all: &[u8], i: u64) -> u8 {
-    if i < (all.len() as u64) {
-        return all[i as usize];
-    }
-    0
-}
-
-// The event of a line with index i.
-fn event_at(item: Item, all: &[u8], i: u64) -> Event {
-    match item {
-        Item::Bytes(_) => Event::Byte(byte_at(all, i)),
-        Item::Clear => Event::Clear,
-        Item::Busy => Event::Busy,
-        Item::Sent(airtime) => Event::Sent(airtime),
-        Item::Configured => Event::Configured,
-        Item::Fault => Event::Fault,
-        Item::Packet {
-            rssi,
-            snr,
-            freq_err,
-            timestamp_us,
-            crc_valid,
-            len: _,
-        } => {
-            let h = PacketStatus {
+    // Runs the events of a line; memory has its bytes.
+    pub(crate) fn line(&mut self, rt: &(impl Print + Eprint), item: Item, memory: &[u8]) {
+        match item {
+            Item::Nothing => {}
+            Item::Bytes(n) => {
+                for b in buffer::part(memory, 0, n) {
+                    self.step(rt, Event::Byte(*b), &[]);
+                }
+            }
+            Item::Ticks(n) => {
+                for _ in 0..n {
+                    self.step(rt, Event::Tick, &[]);
+                }
+            }
+            Item::Clear => self.step(rt, Event::Clear, &[]),
+            Item::Busy => self.step(rt, Event::Busy, &[]),
+            Item::Sent(airtime) => self.step(rt, Event::Sent(airtime), &[]),
+            Item::Configured => self.step(rt, Event::Configured, &[]),
+            Item::Fault => self.step(rt, Event::Fault, &[]),
+            // The script knows no device: its packet has the numbers that the line shows.
+            Item::Packet {
                 rssi,
                 snr,
                 freq_err,
                 timestamp_us,
                 crc_valid,
-            };
-            Event::Packet(h)
+                len,
+            } => {
+                let h = PacketStatus {
+                    rssi,
+                    snr,
+                    freq_err,
+                    timestamp_us,
+                    crc_valid,
+                };
+                self.step(rt, Event::Packet(h), buffer::part(memory, 0, len));
+            }
+            Item::Request => self.step(rt, Event::Request, &[]),
+            Item::Disconnect => self.step(rt, Event::Disconnect, &[]),
+            Item::Room(n) => self.room = n.min(ROOM_MAX as u64) as usize,
         }
-        Item::Request => Event::Request,
-        Item::Disconnect => Event::Disconnect,
-        _ => Event::Tick,
     }
-}
-
-// How many bytes a line has.
-fn len_of(item: Item) -> usize {
-    match item {
-        Item::Bytes(n) => n,
-        Item::Packet {
-            rssi: _,
-            snr: _,
-            freq_err: _,
-            timestamp_us: _,
-            crc_valid: _,
-            len,
-        } => len,
-        _ => 0,
-    }
-}
-
-// A line that is no event: so much output is lent from here on.
-fn roomed(s: Replay, item: Item) -> Replay {
-    if let Item::Room(n) = item {
-        return room(s, n);
-    }
-    s
-}
-
-// Runs the events of a line; memory has its bytes.
-pub(crate) fn run(
-    rt: &(impl Print + Eprint),
-    s: Replay,
-    item: Item,
-    memory: &[u8],
-    run: &mut [u8; RUN_MAX],
-    commands: &mut [u8; COMMANDS],
-    packets: &mut [u8; PACKETS],
-    out: &mut [u8],
-) -> Replay {
-    let all = buffer::part(memory, 0, len_of(item));
-    let n = count(item, all);
-    let mut t = roomed(s, item);
-    let mut i = 0;
-    while i < n {
-        let e = event_at(item, all, i);
-        i += 1;
-        t = step(rt, t, e, all, run, commands, packets, out);
-    }
-    t
 }

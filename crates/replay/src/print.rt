@@ -11,10 +11,9 @@ const LAST: usize = 32;
 
 // Writes the first n bytes of text.
 fn flush(rt: &(impl Print + Eprint), text: &[u8], n: usize) {
-    if rt.write_all(buffer::part(text, 0, n)).is_ok() {
-        return;
+    if rt.write_all(buffer::part(text, 0, n)).is_err() {
+        let _ = eprint!(rt; "replay: write failed\n");
     }
-    eprint!(rt; "replay: write failed\n").is_ok();
 }
 
 // Writes the line of an event, unless its answer is plain.
@@ -23,20 +22,13 @@ pub(crate) fn note(
     index: u64,
     a: Reply,
     commands: &[u8; COMMANDS],
-    out: &[u8],
+    out: &[u8; ROOM_MAX],
 ) {
     if trace::is_plain(a) {
         return;
     }
     let mut text = [0u8; TRACE_LINE];
-    let n = trace::event(
-        index,
-        a,
-        commands,
-        buffer::part(out, 0, ROOM_MAX),
-        &mut text,
-        0,
-    );
+    let n = trace::event(index, a, commands, out, &mut text, 0);
     flush(rt, &text, n);
 }
 

@@ -6,7 +6,7 @@ use mathlib.Core.List.{List, [], ◌∷◌, ◌++◌, append_assoc, append-nil}
 use Prim.Native.Nat.{ℕ, suc, ◌+◌, ◌<◌, ◌≤◌}
 use native.Mathlib.Numerals.{add-one}
 use native.Mathlib.Omega.{arith}
-use borrow.Author.Tests.{lt-ltb, le-ltb, le-leb, lt-leb, eq-eqb, ne_eqb}
+use borrow.Author.Tests.{le-leb, lt-leb, eq-eqb, ne_eqb}
 use lib.Dec.{leb, eqb}
 use lib.ListN.{length, take, drop, set, length-set, length-append, take-append-drop}
 use lib.Seq.{length-take-le, take_all, take_at, take-suc-set, drop-set-lt, drop-drop}
@@ -14,20 +14,19 @@ use Rattle.buffer.specs.Lay.{lay}
 use Rattle.script.specs.Words.{words}
 use Rattle.script.specs.Numbers.{byte_of}
 use Rattle.script.specs.Items.{leading, count_of}
-use Rattle.script.specs.declared.item.Bytes.TheVariants.{Count, Bad}
+use Rattle.std.specs.Prelude.{Some, None}
 
-pub record Gathering (args mem₀ mem : List ℕ) (n i : ℕ) : Type 0 where
-  pub within : i ≤ length args
+-- args are the words, and rest those that are left
+pub record Gathering (args rest mem₀ mem : List ℕ) (n : ℕ) : Type 0 where
   pub count : n ≤ length mem₀
   pub long : length mem ≡ length mem₀
-  pub leads : leading (words args) ≡ take n mem ++ leading (words (drop i args))
-  pub total : length (words args) ≡ n + length (words (drop i args))
+  pub leads : leading (words args) ≡ take n mem ++ leading (words rest)
+  pub total : length (words args) ≡ n + length (words rest)
   pub kept : drop n mem ≡ drop n mem₀
 
-pub begins : (args mem : List ℕ) → Gathering args mem mem 0 0
+pub begins : (args mem : List ℕ) → Gathering args args mem mem 0
 begins args mem =
     record {
-      within = omega arith;
       count = omega arith;
       long = refl;
       leads = refl;
@@ -35,7 +34,7 @@ begins args mem =
       kept = refl;
     }
 
-module _ {args mem₀ mem : List ℕ} {n i : ℕ} (g : Gathering args mem₀ mem n i) where
+module _ {args rest mem₀ mem : List ℕ} {n : ℕ} (g : Gathering args rest mem₀ mem n) where
   came : length (take n mem) ≡ n
   came = length-take-le n mem (omega (arith, g.count, g.long))
 
@@ -48,69 +47,68 @@ module _ {args mem₀ mem : List ℕ} {n i : ℕ} (g : Gathering args mem₀ mem
       ∙ ap (λ (l : List ℕ). take n mem ++ l) (g.kept ∙ ap (λ (m : ℕ). drop m mem₀) k)
       ∙ ap (λ (l : List ℕ). l ++ drop (0 + length l) mem₀) (sym e)
 
-  short : leading (words (drop i args)) ≡ [] → take (length mem₀) (leading (words args)) ≡ take n mem
+  short : leading (words rest) ≡ [] → take (length mem₀) (leading (words args)) ≡ take n mem
   short e =
       let w : leading (words args) ≡ take n mem = g.leads ∙ ap (λ (l : List ℕ). take n mem ++ l) e ∙ append-nil (take n mem) in
       rw w (take_all (length mem₀) (take n mem) (omega (arith, came, g.count)))
 
-  size : length (leading (words args)) ≡ n + length (leading (words (drop i args)))
-  size = ap length g.leads ∙ length-append (take n mem) _ ∙ ap (λ (k : ℕ). k + length (leading (words (drop i args)))) came
+  size : length (leading (words args)) ≡ n + length (leading (words rest))
+  size = ap length g.leads ∙ length-append (take n mem) _ ∙ ap (λ (k : ℕ). k + length (leading (words rest))) came
 
   -- no more words
-  pub ends : words (drop i args) ≡ []
-      → (Count n ≡ count_of (length mem₀) (words args)) × (mem ≡ lay 0 (take (length mem₀) (leading (words args))) mem₀)
+  pub ends : words rest ≡ []
+      → (Some n ≡ count_of (length mem₀) (words args)) × (mem ≡ lay 0 (take (length mem₀) (leading (words args))) mem₀)
   unfolding leading
   ends e =
       let a : length (leading (words args)) ≡ n = omega (arith, rw e at size) in
       let b : length (words args) ≡ n = omega (arith, rw e at g.total) in
       (rw (a, b) (simp (eq-eqb n n refl, le-leb n (length mem₀) g.count)), stays (short (rw e)))
 
-  module _ {w : List ℕ} {ws : List (List ℕ)} (e : words (drop i args) ≡ w ∷ ws) where
+  module _ {w : List ℕ} {ws : List (List ℕ)} (e : words rest ≡ w ∷ ws) where
     many : length (words args) ≡ n + suc (length ws)
     many = rw e at g.total
 
     -- a word that is no byte
-    pub ends-bad : 255 < byte_of w
-        → (Bad ≡ count_of (length mem₀) (words args)) × (mem ≡ lay 0 (take (length mem₀) (leading (words args))) mem₀)
+    pub ends-bad : byte_of w ≡ None
+        → (None ≡ count_of (length mem₀) (words args)) × (mem ≡ lay 0 (take (length mem₀) (leading (words args))) mem₀)
     unfolding leading
     ends-bad h =
-        let z : leading (words (drop i args)) ≡ [] = rw e (simp (lt-ltb 255 (byte_of w) h)) in
+        let z : leading (words rest) ≡ [] = rw e (simp h) in
         let a : length (leading (words args)) ≡ n = omega (arith, rw z at size) in
         let d : (length (leading (words args)) ≡ length (words args)) → ⊥ = λ q. omega (arith, a, many, q) in
         (simp (ne_eqb _ _ d), stays (short z))
 
-    one_more : byte_of w ≤ 255 → leading (words (drop i args)) ≡ byte_of w ∷ leading ws
+    one_more : {b : ℕ} → byte_of w ≡ Some b → leading (words rest) ≡ b ∷ leading ws
     unfolding leading
-    one_more h = rw e (simp (le-ltb 255 (byte_of w) h))
+    one_more h = rw e (simp h)
 
-    -- a byte, and no room for it
-    pub ends-full : byte_of w ≤ 255 → n ≡ length mem
-        → (Bad ≡ count_of (length mem₀) (words args)) × (mem ≡ lay 0 (take (length mem₀) (leading (words args))) mem₀)
-    ends-full h f =
+    -- no room for a word
+    pub ends-full : n ≡ length mem
+        → (None ≡ count_of (length mem₀) (words args)) × (mem ≡ lay 0 (take (length mem₀) (leading (words args))) mem₀)
+    ends-full f =
         let l : leb (length (words args)) (length mem₀) ≡ false = lt-leb (length (words args)) (length mem₀) (omega (arith, many, f, g.long)) in
         let k : length (take n mem) ≡ length mem₀ = omega (arith, came, f, g.long) in
         (go (eqb (length (leading (words args))) (length (words args))) l, stays (rw g.leads (take_at (take n mem) _ (length mem₀) k)))
       where
         go : (t : Bool) → leb (length (words args)) (length mem₀) ≡ false
-            → Bad ≡ cond t (cond (leb (length (words args)) (length mem₀)) (Count (length (words args))) Bad) Bad
+            → None ≡ cond t (cond (leb (length (words args)) (length mem₀)) (Some (length (words args))) None) None
         go true p = simp p
         go false p = refl
 
     -- a byte, and room for it
-    pub goes_on : {j : ℕ} → byte_of w ≤ 255 → n < length mem → ws ≡ words (drop j args) → j ≤ length args
-        → Gathering args mem₀ (set mem n (byte_of w)) (n + 1) j
-    goes_on {j} h f r k =
-        let t : take (n + 1) (set mem n (byte_of w)) ≡ take n mem ++ (byte_of w ∷ []) = rw add-one (take-suc-set mem n (byte_of w) f) in
+    pub goes_on : {b : ℕ} {tail : List ℕ} → byte_of w ≡ Some b → n < length mem → ws ≡ words tail
+        → Gathering args tail mem₀ (set mem n b) (n + 1)
+    goes_on {b} {tail} h f r =
+        let t : take (n + 1) (set mem n b) ≡ take n mem ++ (b ∷ []) = rw add-one (take-suc-set mem n b f) in
         record {
-          within = k;
           count = omega (arith, f, g.long);
-          long = length-set mem n (byte_of w) ∙ g.long;
+          long = length-set mem n b ∙ g.long;
           leads =
               rw (t, append_assoc)
-              (g.leads ∙ ap (λ (l : List ℕ). take n mem ++ l) (one_more h ∙ ap (λ (v : List (List ℕ)). byte_of w ∷ leading v) r));
+              (g.leads ∙ ap (λ (l : List ℕ). take n mem ++ l) (one_more h ∙ ap (λ (v : List (List ℕ)). b ∷ leading v) r));
           total = many ∙ rw (← r) (omega arith);
           kept =
-              drop-set-lt (n + 1) mem n (byte_of w) (omega arith)
+              drop-set-lt (n + 1) mem n b (omega arith)
               ∙ sym (drop-drop 1 n mem)
               ∙ ap (drop 1) g.kept
               ∙ drop-drop 1 n mem₀;

@@ -1,4 +1,4 @@
 mod Words
 mod Numbers
-mod Items
 mod Gathering
+mod Items

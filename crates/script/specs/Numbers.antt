@@ -1,9 +1,7 @@
 -- Numbers in a script.
 -- Assumes nothing.
-use Rattle.std.specs.Prelude.{ℕ, zero, suc, ◌+◌, ◌-◌, ◌*◌, Bool, true, false, cond, List, [], ◌∷◌, ltb, leb, eqb}
+use Rattle.std.specs.Prelude.{ℕ, zero, suc, ◌+◌, ◌-◌, ◌*◌, Bool, true, false, cond, Option, Some, None, List, [], ◌∷◌, ltb, leb, eqb}
 use Prim.Native.Char.{code}
-use Rattle.script.specs.declared.number.Number.{Number}
-use Rattle.script.specs.declared.number.Number.TheVariants.{Value, Bad}
 
 -- whether a character stands from a to b
 abbrev pub between : ℕ → ℕ → ℕ → Bool
@@ -21,41 +19,43 @@ value n [] = n
 value n (c ∷ s) = value (n * 10 + (c - code "0")) s
 
 -- a number that must not be above most
-abbrev pub up_to : ℕ → ℕ → Number
-up_to most n = cond (leb n most) (Value n) Bad
+abbrev pub up_to : ℕ → ℕ → Option ℕ
+up_to most n = cond (leb n most) (Some n) None
 
 -- a word as a decimal number up to most: a digit or more, of which the first may be zeros
-unfoldable pub decimal_in : ℕ → List ℕ → Number
-decimal_in most [] = Bad
-decimal_in most (c ∷ s) = cond (all_digits (c ∷ s)) (up_to most (value 0 (c ∷ s))) Bad
+unfoldable pub decimal_in : ℕ → List ℕ → Option ℕ
+decimal_in most [] = None
+decimal_in most (c ∷ s) = cond (all_digits (c ∷ s)) (up_to most (value 0 (c ∷ s))) None
 
 -- -n in two's complement, where half of the numbers are below zero
-abbrev pub minus : ℕ → Number → Number
-minus half (Value zero) = Value 0
-minus half (Value (suc n)) = Value (half + half - suc n)
-minus half Bad = Bad
+abbrev pub minus : ℕ → Option ℕ → Option ℕ
+minus half (Some zero) = Some 0
+minus half (Some (suc n)) = Some (half + half - suc n)
+minus half None = None
 
 -- a word as a signed number, from -half to half - 1
-unfoldable pub signed_in : ℕ → List ℕ → Number
-signed_in half [] = Bad
+unfoldable pub signed_in : ℕ → List ℕ → Option ℕ
+signed_in half [] = None
 signed_in half (c ∷ s) = cond (eqb c (code "-")) (minus half (decimal_in half s)) (decimal_in (half - 1) (c ∷ s))
 
 -- ---- hexadecimal
 
--- the value of a digit, in either case; 16 if it is none
-abbrev pub nibble : ℕ → ℕ
+-- the value of a digit, in either case
+abbrev pub nibble : ℕ → Option ℕ
 nibble c =
-    cond (between (code "0") (code "9") c) (c - code "0")
-    (cond (between (code "A") (code "F") c) (c - code "A" + 10)
-    (cond (between (code "a") (code "f") c) (c - code "a" + 10) 16))
+    cond (between (code "0") (code "9") c) (Some (c - code "0"))
+    (cond (between (code "A") (code "F") c) (Some (c - code "A" + 10))
+    (cond (between (code "a") (code "f") c) (Some (c - code "a" + 10)) None))
 
 -- the byte of two digits
-abbrev pub pair : ℕ → ℕ → ℕ
-pair h l = cond (ltb 15 h) 256 (cond (ltb 15 l) 256 (h * 16 + l))
+abbrev pub pair : Option ℕ → Option ℕ → Option ℕ
+pair (Some h) (Some l) = Some (h * 16 + l)
+pair (Some h) None = None
+pair None l = None
 
--- a word as a byte; 256 if it is none
-abbrev pub byte_of : List ℕ → ℕ
-byte_of [] = 256
-byte_of (a ∷ []) = 256
+-- a word as a byte
+abbrev pub byte_of : List ℕ → Option ℕ
+byte_of [] = None
+byte_of (a ∷ []) = None
 byte_of (a ∷ b ∷ []) = pair (nibble a) (nibble b)
-byte_of (a ∷ b ∷ c ∷ s) = 256
+byte_of (a ∷ b ∷ c ∷ s) = None

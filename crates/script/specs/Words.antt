@@ -1,6 +1,6 @@
 -- Words: what blanks separate.
 -- Assumes nothing.
-use Rattle.std.specs.Prelude.{ℕ, suc, ◌+◌, Bool, true, false, cond, List, [], ◌∷◌, ◌++◌, eqb, drop}
+use Rattle.std.specs.Prelude.{ℕ, Bool, true, cond, List, [], ◌∷◌, ◌++◌, eqb, bytes_eq}
 use Prim.Native.Char.{code}
 
 -- a space or a tab
@@ -29,23 +29,6 @@ abbrev pub others : List (List ℕ) → List (List ℕ)
 others [] = []
 others (w ∷ ws) = ws
 
--- how many blanks a text starts with
-unfoldable pub lead : List ℕ → ℕ
-lead [] = 0
-lead (c ∷ s) = cond (blank c) (suc (lead s)) 0
-
--- how long the word is that it starts with
-unfoldable pub span : List ℕ → ℕ
-span [] = 0
-span (c ∷ s) = cond (blank c) 0 (suc (span s))
-
--- how much its first word takes, with the blanks before it
-abbrev pub used : List ℕ → ℕ
-used s = lead s + span (drop (lead s) s)
-
 -- whether two texts are the same
-unfoldable pub same : List ℕ → List ℕ → Bool
-same [] [] = true
-same [] (b ∷ t) = false
-same (a ∷ s) [] = false
-same (a ∷ s) (b ∷ t) = cond (eqb a b) (same s t) false
+abbrev pub same : List ℕ → List ℕ → Bool
+same = bytes_eq

@@ -1,11 +1,11 @@
 // A line of a script.
-ghost use Rattle.std.specs.Prelude.{◌≡◌, length, take};
+ghost use Rattle.std.specs.Prelude.{◌≡◌, ◌+◌, ◌<◌, ◌≤◌, length, take, IfSome, MatchOption};
 ghost use Rattle.buffer.specs.Lay.{lay};
-ghost use Rattle.script.specs.Words.{words};
-ghost use Rattle.script.specs.Items.{any_words, one, head_in, tail_in, packet_head, count_of, leading, name_item, byte_item, packets, packet_item};
-ghost use Rattle.script.specs.Items.{packet_bytes, tick_item, sent_item, room_item, plain_item, item_of, item_bytes, line_item, line_bytes};
+ghost use Rattle.script.specs.Words.{words, word, others};
+ghost use Rattle.script.specs.Numbers.{decimal_in, signed_in};
+ghost use Rattle.script.specs.Items.{any_words, one, head_in, tail_in, count_of, leading, name_item, byte_item, packet_item, packet_bytes};
+ghost use Rattle.script.specs.Items.{tick_item, sent_item, plain_item, item_of, item_bytes, comment, line_item, line_bytes};
 
-use crate::number::Number;
 use crate::{number, word};
 
 // What a line of a script says.
@@ -36,301 +36,210 @@ pub enum Item {
     Disconnect,
     // No event: so many bytes of output are lent from here on.
     Room(u64),
-    // It is none of these.
-    Bad,
 }
 
 // What a packet's line has before its bytes. Signed numbers are in two's complement.
 #[derive(Clone, Copy)]
-enum Head {
-    Good {
-        rssi: u16,
-        snr: u16,
-        freq_err: u32,
-        timestamp_us: u64,
-        crc_valid: bool,
-    },
-    Bad,
+struct Head {
+    rssi: u16,
+    snr: u16,
+    freq_err: u32,
+    timestamp_us: u64,
+    crc_valid: bool,
 }
 
-// How many bytes some words are.
-#[derive(Clone, Copy)]
-enum Bytes {
-    Count(usize),
-    Bad,
-}
-
-// Reads a line, without its line end. Bytes of byte and packet are put into memory, from its start
-// on; a line with more of them than the memory takes is bad.
-pub fn read(line: &[u8], memory: &mut [u8]) -> Item
+// Reads a line, without its line end; a bad line is none of the items. Bytes of byte and packet are
+// put into memory, from its start on; a line with more of them than the memory takes is bad.
+pub fn read(line: &[u8], memory: &mut [u8]) -> Option<Item>
     ensures value { result ≡ line_item (length memory.old) line.now }
     ensures memory_after { memory.new ≡ lay 0 (line_bytes (length memory.old) line.now) memory.old }
 {
-    let n = line.len();
-    if n == 0 {
-        return Item::Nothing;
+    if is_comment(line) {
+        return Some(Item::Nothing);
     }
-    if line[0] == b'#' {
-        return Item::Nothing;
-    }
-    if line[n - 1] == b'\r' {
-        return read_words(buffer::part(line, 0, n - 1), memory);
-    }
-    read_words(line, memory)
+    read_words(line.strip_suffix(b"\r").unwrap_or(line), memory)
+}
+
+// Whether a line is a comment.
+#[tactic(auto, using(crate::proofs::Items::comment_is))]
+fn is_comment(line: &[u8]) -> bool
+    ensures { result ≡ comment line.now }
+{
+    line.starts_with(b"#")
 }
 
 // Reads the words of a line.
-fn read_words(line: &[u8], memory: &mut [u8]) -> Item
+#[tactic(auto, unfolding(crate::specs::Items::named_item, crate::specs::Items::named_bytes))]
+fn read_words(line: &[u8], memory: &mut [u8]) -> Option<Item>
     ensures value { result ≡ item_of (length memory.old) (words line.now) }
     ensures memory_after { memory.new ≡ lay 0 (item_bytes (length memory.old) (words line.now)) memory.old }
 {
-    let name = word::first(line);
-    let rest = word::rest(line);
-    if name.len() == 0 {
-        return Item::Nothing;
+    let Some((name, args)) = word::split_first(line) else {
+        return Some(Item::Nothing);
+    };
+    if name == b"byte".as_slice() {
+        return byte(args, memory);
     }
-    if word::same(name, b"byte") {
-        return byte(rest, memory);
+    if name == b"packet".as_slice() {
+        return packet(args, memory);
     }
-    if word::same(name, b"packet") {
-        return packet(rest, memory);
-    }
-    plain(name, rest)
+    plain(name, args)
 }
 
 // A line that has no bytes.
-fn plain(name: &[u8], args: &[u8]) -> Item
+#[tactic(auto, unfolding(crate::specs::Items::plain_item))]
+fn plain(name: &[u8], args: &[u8]) -> Option<Item>
     ensures { result ≡ plain_item name.now (words args.now) }
 {
-    if word::same(name, b"tick") {
+    if name == b"tick".as_slice() {
         return tick(args);
     }
-    if word::same(name, b"sent") {
+    if name == b"sent".as_slice() {
         return sent(args);
     }
-    if word::same(name, b"room") {
-        return room(args);
+    if name == b"room".as_slice() {
+        return one(args, u64::MAX).map(Item::Room);
     }
-    if is_more(args) {
-        return Item::Bad;
+    if word::split_first(args).is_some() {
+        return None;
     }
     alone(name)
 }
 
-// Whether there is a word.
-fn is_more(s: &[u8]) -> bool
-    ensures { result ≡ any_words (words s.now) }
-{
-    let w = word::first(s);
-    0 < w.len()
-}
-
-// A line of one word.
-fn alone(name: &[u8]) -> Item
+// A line of one word. Not a match on the names: byte patterns were tried, and leave 43 default goals.
+#[tactic(auto, unfolding(crate::specs::Items::name_item))]
+fn alone(name: &[u8]) -> Option<Item>
     ensures { result ≡ name_item name.now }
 {
-    if word::same(name, b"clear") {
-        return Item::Clear;
+    if name == b"clear".as_slice() {
+        Some(Item::Clear)
+    } else if name == b"busy".as_slice() {
+        Some(Item::Busy)
+    } else if name == b"configured".as_slice() {
+        Some(Item::Configured)
+    } else if name == b"fault".as_slice() {
+        Some(Item::Fault)
+    } else if name == b"request".as_slice() {
+        Some(Item::Request)
+    } else if name == b"disconnect".as_slice() {
+        Some(Item::Disconnect)
+    } else {
+        None
     }
-    if word::same(name, b"busy") {
-        return Item::Busy;
-    }
-    if word::same(name, b"configured") {
-        return Item::Configured;
-    }
-    if word::same(name, b"fault") {
-        return Item::Fault;
-    }
-    if word::same(name, b"request") {
-        return Item::Request;
-    }
-    if word::same(name, b"disconnect") {
-        return Item::Disconnect;
-    }
-    Item::Bad
+}
+
+// The first word as a number up to most, and what follows it.
+#[tactic(auto, unfolding(crate::specs::Numbers::decimal_in))]
+fn decimal(args: &[u8], most: u64) -> Option<(u64, &[u8])>
+    ensures number { MatchOption result (decimal_in most (word (words args.now)) ≡ None) (λ p. decimal_in most (word (words args.now)) ≡ Some p.0) }
+    ensures rest { IfSome result (λ p. (p.0 ≤ most) × (words p.1.now ≡ others (words args.now))) }
+{
+    let (w, rest) = word::split_first(args)?;
+    Some((number::decimal(w, most)?, rest))
+}
+
+// The first word as a signed number, and what follows it.
+#[tactic(auto, unfolding(crate::specs::Numbers::signed_in))]
+fn signed(args: &[u8], half: u64) -> Option<(u64, &[u8])>
+    requires { (1 ≤ half) × (half ≤ 0x80000000) }
+    ensures number { MatchOption result (signed_in half (word (words args.now)) ≡ None) (λ p. signed_in half (word (words args.now)) ≡ Some p.0) }
+    ensures rest { IfSome result (λ p. (p.0 < half + half) × (words p.1.now ≡ others (words args.now))) }
+{
+    let (w, rest) = word::split_first(args)?;
+    Some((number::signed(w, half)?, rest))
 }
 
 // One word, that is a number up to most.
-fn one(args: &[u8], most: u64) -> Number
-    ensures { result ≡ one most (words args.now) }
+fn one(args: &[u8], most: u64) -> Option<u64>
+    ensures value { result ≡ one most (words args.now) }
+    ensures within { IfSome result (λ n. n ≤ most) }
 {
-    let w = word::first(args);
-    let rest = word::rest(args);
-    if is_more(rest) {
-        return Number::Bad;
+    let (n, rest) = decimal(args, most)?;
+    if word::split_first(rest).is_some() {
+        return None;
     }
-    number::decimal(w, most)
+    Some(n)
 }
 
 // tick, or tick N
-fn tick(args: &[u8]) -> Item
+fn tick(args: &[u8]) -> Option<Item>
     ensures { result ≡ tick_item (words args.now) }
 {
-    if !is_more(args) {
-        return Item::Ticks(1);
+    if word::split_first(args).is_none() {
+        return Some(Item::Ticks(1));
     }
-    let Number::Value(n) = one(args, 0xFFFFFFFFFFFFFFFF) else {
-        return Item::Bad;
-    };
-    Item::Ticks(n)
+    one(args, u64::MAX).map(Item::Ticks)
 }
 
 // sent N
-fn sent(args: &[u8]) -> Item
+fn sent(args: &[u8]) -> Option<Item>
     ensures { result ≡ sent_item (words args.now) }
 {
-    let Number::Value(n) = one(args, 0xFFFFFFFF) else {
-        return Item::Bad;
-    };
-    Item::Sent(n as u32)
-}
-
-// room N
-fn room(args: &[u8]) -> Item
-    ensures { result ≡ room_item (words args.now) }
-{
-    let Number::Value(n) = one(args, 0xFFFFFFFFFFFFFFFF) else {
-        return Item::Bad;
-    };
-    Item::Room(n)
+    Some(Item::Sent(one(args, u32::MAX as u64)? as u32))
 }
 
 // byte HH HH ..
-fn byte(args: &[u8], memory: &mut [u8]) -> Item
+fn byte(args: &[u8], memory: &mut [u8]) -> Option<Item>
     ensures value { result ≡ byte_item (length memory.old) (words args.now) }
     ensures memory_after { memory.new ≡ lay 0 (take (length memory.old) (leading (words args.now))) memory.old }
 {
-    let Bytes::Count(n) = all_bytes(args, memory) else {
-        return Item::Bad;
-    };
-    if n == 0 {
-        return Item::Bad;
+    match all_bytes(args, memory)? {
+        0 => None,
+        n => Some(Item::Bytes(n)),
     }
-    Item::Bytes(n)
 }
 
 // packet RSSI SNR FREQ TIME CRC HH ..
-fn packet(args: &[u8], memory: &mut [u8]) -> Item
+fn packet(args: &[u8], memory: &mut [u8]) -> Option<Item>
     ensures value { result ≡ packet_item (length memory.old) (words args.now) }
     ensures memory_after { memory.new ≡ lay 0 (packet_bytes (length memory.old) (words args.now)) memory.old }
 {
-    let h = head_in(args);
-    let Head::Good {
-        rssi: _,
-        snr: _,
-        freq_err: _,
-        timestamp_us: _,
-        crc_valid: _,
-    } = h
-    else {
-        return Item::Bad;
-    };
-    let Bytes::Count(len) = all_bytes(tail_in(args), memory) else {
-        return Item::Bad;
-    };
-    received(h, len)
-}
-
-// A packet with so many bytes.
-fn received(h: Head, len: usize) -> Item
-    ensures { result ≡ packets h (Bytes.Count len) }
-{
-    let Head::Good {
-        rssi,
-        snr,
-        freq_err,
-        timestamp_us,
-        crc_valid,
-    } = h
-    else {
-        return Item::Bad;
-    };
-    Item::Packet {
-        rssi: scalar::i16_of(rssi),
-        snr: scalar::i16_of(snr),
-        freq_err: scalar::i32_of(freq_err),
-        timestamp_us,
-        crc_valid,
+    let (head, rest) = head_in(args)?;
+    let len = all_bytes(rest, memory)?;
+    Some(Item::Packet {
+        rssi: scalar::i16_of(head.rssi),
+        snr: scalar::i16_of(head.snr),
+        freq_err: scalar::i32_of(head.freq_err),
+        timestamp_us: head.timestamp_us,
+        crc_valid: head.crc_valid,
         len,
-    }
+    })
 }
 
-// What a packet's line has before its bytes.
-fn head_in(args: &[u8]) -> Head
-    ensures { result ≡ head_in (words args.now) }
+// What a packet's line has before its bytes, and what follows that.
+fn head_in(args: &[u8]) -> Option<(Head, &[u8])>
+    ensures head { MatchOption result (head_in (words args.now) ≡ None) (λ p. head_in (words args.now) ≡ Some p.0) }
+    ensures rest { IfSome result (λ p. words p.1.now ≡ tail_in (words args.now)) }
 {
-    let b = word::rest(args);
-    let c = word::rest(b);
-    let d = word::rest(c);
-    let e = word::rest(d);
-    head_of(
-        word::first(args),
-        word::first(b),
-        word::first(c),
-        word::first(d),
-        word::first(e),
-    )
-}
-
-// What follows that.
-fn tail_in(args: &[u8]) -> &[u8]
-    ensures { words result.now ≡ tail_in (words args.now) }
-{
-    word::rest(word::rest(word::rest(word::rest(word::rest(args)))))
-}
-
-// The numbers of a packet's line.
-fn head_of(rssi: &[u8], snr: &[u8], freq_err: &[u8], timestamp_us: &[u8], crc_valid: &[u8]) -> Head
-    ensures { result
-        ≡ packet_head rssi.now snr.now freq_err.now timestamp_us.now crc_valid.now }
-{
-    let Number::Value(a) = number::signed(rssi, 0x8000) else {
-        return Head::Bad;
+    let (rssi, rest) = signed(args, 0x8000)?;
+    let (snr, rest) = signed(rest, 0x8000)?;
+    let (freq_err, rest) = signed(rest, 0x8000_0000)?;
+    let (timestamp_us, rest) = decimal(rest, u64::MAX)?;
+    let (crc_valid, rest) = decimal(rest, 1)?;
+    let head = Head {
+        rssi: rssi as u16,
+        snr: snr as u16,
+        freq_err: freq_err as u32,
+        timestamp_us,
+        crc_valid: crc_valid == 1,
     };
-    let Number::Value(b) = number::signed(snr, 0x8000) else {
-        return Head::Bad;
-    };
-    let Number::Value(c) = number::signed(freq_err, 0x80000000) else {
-        return Head::Bad;
-    };
-    let Number::Value(d) = number::decimal(timestamp_us, 0xFFFFFFFFFFFFFFFF) else {
-        return Head::Bad;
-    };
-    let Number::Value(e) = number::decimal(crc_valid, 1) else {
-        return Head::Bad;
-    };
-    Head::Good {
-        rssi: a as u16,
-        snr: b as u16,
-        freq_err: c as u32,
-        timestamp_us: d,
-        crc_valid: e == 1,
-    }
+    Some((head, rest))
 }
 
 // All words as bytes.
-fn all_bytes(args: &[u8], memory: &mut [u8]) -> Bytes
+fn all_bytes(args: &[u8], memory: &mut [u8]) -> Option<usize>
     ensures value { result ≡ count_of (length memory.old) (words args.now) }
     ensures memory_after { memory.new ≡ lay 0 (take (length memory.old) (leading (words args.now))) memory.old }
 {
     let mut n = 0;
-    let mut i = 0;
-    while i < args.len() {
-        let s = buffer::from(args, i);
-        let w = word::first(s);
-        if w.len() == 0 {
-            return Bytes::Count(n);
-        }
-        let b = number::byte_of(w);
-        if 255 < b {
-            return Bytes::Bad;
-        }
+    let mut rest = args;
+    while let Some((w, tail)) = word::split_first(rest) {
         if n == memory.len() {
-            return Bytes::Bad;
+            return None;
         }
-        memory[n] = b as u8;
+        memory[n] = number::byte_of(w)?;
         n += 1;
-        i += word::used(s);
+        rest = tail;
     }
-    Bytes::Count(n)
+    Some(n)
 }

@@ -1,82 +1,32 @@
 // Words: what blanks separate.
-ghost use Rattle.std.specs.Prelude.{◌≡◌, ◌+◌, ◌<◌, ◌≤◌, ltb, length, drop};
-ghost use Rattle.script.specs.Words.{blank, lead, span, used, words, word, others, same};
-ghost use Rattle.script.specs.Words as W;
+ghost use Rattle.std.specs.Prelude.{◌≡◌, [], ◌∷◌, not, position, MatchOption};
+ghost use Rattle.script.specs.Words.{blank, words};
 
 // Whether a byte is a blank: a space or a tab.
 fn is_blank(c: u8) -> bool
     ensures { result ≡ blank c }
 {
-    if c == b' ' {
-        return true;
-    }
-    c == b'\t'
+    matches!(c, b' ' | b'\t')
 }
 
-// How many blanks s starts with.
-fn lead(s: &[u8]) -> usize
-    ensures { result ≡ lead s.now }
+// Where the first word of s starts, if there is one.
+fn start(s: &[u8]) -> Option<usize>
+    ensures { result ≡ position (λ c. not (blank c)) s.now }
 {
-    let mut i = 0;
-    while i < s.len() {
-        if !is_blank(s[i]) {
-            return i;
-        }
-        i += 1;
-    }
-    i
+    s.iter().position(|c| !is_blank(*c))
 }
 
-// How long the word is that s starts with.
-fn span(s: &[u8]) -> usize
-    ensures { result ≡ span s.now }
+// Where the word ends that s starts with, if a blank ends it.
+fn end(s: &[u8]) -> Option<usize>
+    ensures { result ≡ position blank s.now }
 {
-    let mut i = 0;
-    while i < s.len() {
-        if is_blank(s[i]) {
-            return i;
-        }
-        i += 1;
-    }
-    i
+    s.iter().position(|c| is_blank(*c))
 }
 
-// How much of s its first word takes, with the blanks before it.
-pub(crate) fn used(s: &[u8]) -> usize
-    ensures { result ≡ used s.now }
+// The first word of s and what follows it, if there is a word.
+pub(crate) fn split_first(s: &[u8]) -> Option<(&[u8], &[u8])>
+    ensures { MatchOption result (words s.now ≡ []) (λ p. words s.now ≡ p.0.now ∷ words p.1.now) }
 {
-    let n = lead(s);
-    n + span(buffer::from(s, n))
-}
-
-// The first word of s; no bytes, if there is none.
-pub(crate) fn first(s: &[u8]) -> &[u8]
-    ensures { result.now ≡ word (words s.now) }
-{
-    let t = buffer::from(s, lead(s));
-    buffer::part(t, 0, span(t))
-}
-
-// What follows the first word of s.
-pub(crate) fn rest(s: &[u8]) -> &[u8]
-    ensures { words result.now ≡ others (words s.now) }
-{
-    buffer::from(s, used(s))
-}
-
-// Whether two texts are the same.
-pub(crate) fn same(a: &[u8], b: &[u8]) -> bool
-    ensures { result ≡ same a.now b.now }
-{
-    if a.len() != b.len() {
-        return false;
-    }
-    let mut i = 0;
-    while i < a.len() {
-        if a[i] != b[i] {
-            return false;
-        }
-        i += 1;
-    }
-    true
+    let (_, t) = s.split_at(start(s)?);
+    Some(t.split_at(end(t).unwrap_or(t.len())))
 }

@@ -9,7 +9,7 @@ use frame::FRAME_MAX;
 
 // The TX of C.3.2, what each takes on the wire and in P's text, and the tag of the first. The packets
 // are A, B and C.
-const BATCH: usize = 3;
+const BATCH: u8 = 3;
 
 const TX_FRAME: usize = 9;
 
@@ -18,11 +18,28 @@ const TX_TEXT: usize = 27;
 const FIRST: u16 = 0x0064;
 
 // How many frames there were, how many were P's bytes, and how many were read back.
-#[derive(Clone, Copy)]
+#[derive(Clone, Copy, Default)]
 pub(crate) struct Score {
-    pub(crate) frames: u32,
-    pub(crate) same: u32,
-    pub(crate) back: u32,
+    frames: u32,
+    same: u32,
+    back: u32,
+}
+
+impl Score {
+    // One frame more.
+    fn counted(self, is_same: bool, is_back: bool) -> Score {
+        Score {
+            frames: self.frames.wrapping_add(1),
+            same: self.same.wrapping_add(is_same as u32),
+            back: self.back.wrapping_add(is_back as u32),
+        }
+    }
+
+    // Prints the last line.
+    pub(crate) fn print(self, rt: &impl Print) {
+        let Score { frames, same, back } = self;
+        let _ = print!(rt; "{frames} frames, {same} as in P, {back} read back\n");
+    }
 }
 
 // Takes a line.
@@ -31,9 +48,9 @@ pub(crate) fn line(rt: &impl Print, s: Score, line: &[u8]) -> Score {
     let n = table::put(table::column(line, table::BYTES_COLUMN), &mut memory);
     let bytes = buffer::part(&memory, 0, n);
     match table::kind(line) {
-        b'c' | b'a' | b'w' => framed(rt, s, line, bytes),
-        b'f' => unwritten(rt, s, line, bytes),
-        b'b' => batch(rt, s, line),
+        Some(b'c' | b'a' | b'w') => framed(rt, s, line, bytes),
+        Some(b'f') => unwritten(rt, s, line, bytes),
+        Some(b'b') => batch(rt, s, line),
         _ => s,
     }
 }
@@ -52,7 +69,7 @@ fn framed(rt: &impl Print, s: Score, line: &[u8], bytes: &[u8]) -> Score {
     print_verdicts(rt, is_frame, is_body, is_read);
     let is_refused = print_refusals(rt, item, line, bytes, frame);
     text::put(rt, b"\n");
-    counted(s, is_frame & is_body, is_read & is_refused)
+    s.counted(is_frame & is_body, is_read & is_refused)
 }
 
 // Whether P's text shows the body of an item.
@@ -64,10 +81,7 @@ fn is_body(item: Item, tag: u16, bytes: &[u8], shown: &[u8]) -> bool {
 
 // A frame without its zero.
 fn run(frame: &[u8]) -> &[u8] {
-    if frame.len() == 0 {
-        return frame;
-    }
-    buffer::part(frame, 0, frame.len() - 1)
+    frame.split_last().map_or(frame, |(_, run)| run)
 }
 
 // Whether reader and writer of commands refuse a wrong command with its number.
@@ -75,9 +89,9 @@ fn print_refusals(rt: &impl Print, item: Item, line: &[u8], payload: &[u8], fram
     let Item::Wrong { kind, number } = item else {
         return true;
     };
-    let is_unread = print_refusal(rt, b", reader", side::read_number(run(frame)), number);
+    let is_unread = print_refusal(rt, ", reader", side::read_number(run(frame)), number);
     let got = side::write_number(kind, table::tag(line), payload);
-    is_unread & print_refusal(rt, b", writer", got, number)
+    is_unread & print_refusal(rt, ", writer", got, number)
 }
 
 // Fields that make no right command: the writer refuses them with the line's number.
@@ -86,7 +100,7 @@ fn unwritten(rt: &impl Print, s: Score, line: &[u8], bytes: &[u8]) -> Score {
     let got = side::command_number(c, table::tag(line), bytes);
     print_head(rt, line);
     let number = table::number(table::column(line, table::BODY_COLUMN));
-    print_refusal(rt, b" from its fields: writer", got, number);
+    print_refusal(rt, " from its fields: writer", got, number);
     text::put(rt, b"\n");
     s
 }
@@ -97,17 +111,16 @@ fn batch(rt: &impl Print, s: Score, line: &[u8]) -> Score {
     text::put(rt, table::column(line, table::LABEL_COLUMN));
     let mut is_same = true;
     let mut is_read = true;
-    let mut i = 0;
-    while i < BATCH {
+    for i in 0..BATCH {
         let tx = Item::Command(Command::Tx { flags: 0 });
-        let packet = [b'A' + i as u8];
+        let tag = FIRST + i as u16;
+        let packet = [b'A' + i];
         let mut memory = [0u8; TX_FRAME];
-        let len = side::write(tx, FIRST + i as u16, &packet, &mut memory);
+        let len = side::write(tx, tag, &packet, &mut memory);
         let frame = buffer::part(&memory, 0, len);
         text::print(rt, frame);
-        is_same = is_same & text::shows(buffer::part(shown, i * TX_TEXT, TX_TEXT), frame);
-        is_read = is_read & side::is_read(tx, FIRST + i as u16, &packet, run(frame));
-        i += 1;
+        is_same &= text::shows(buffer::part(shown, i as usize * TX_TEXT, TX_TEXT), frame);
+        is_read &= side::is_read(tx, tag, &packet, run(frame));
     }
     print_batch(rt, is_same, is_read);
     s
@@ -115,8 +128,8 @@ fn batch(rt: &impl Print, s: Score, line: &[u8]) -> Score {
 
 // Whether the frames and what was read back are the same.
 fn print_batch(rt: &impl Print, is_same: bool, is_read: bool) {
-    print_verdict(rt, b" frames", is_same);
-    print_verdict(rt, b", read back", is_read);
+    print_verdict(rt, " frames", is_same);
+    print_verdict(rt, ", read back", is_read);
     text::put(rt, b"\n");
 }
 
@@ -139,9 +152,9 @@ fn print_line(rt: &impl Print, line: &[u8], frame: &[u8]) {
 
 // Whether the frame, the body and what was read back are the same.
 fn print_verdicts(rt: &impl Print, is_frame: bool, is_body: bool, is_read: bool) {
-    print_verdict(rt, b" frame", is_frame);
-    print_verdict(rt, b", body", is_body);
-    print_verdict(rt, b", read back", is_read);
+    print_verdict(rt, " frame", is_frame);
+    print_verdict(rt, ", body", is_body);
+    print_verdict(rt, ", read back", is_read);
 }
 
 // The first and the last bytes of a long frame, and its length.
@@ -149,48 +162,21 @@ fn print_ends(rt: &impl Print, frame: &[u8]) {
     text::print(rt, buffer::part(frame, 0, 8));
     text::put(rt, b" ..");
     text::print(rt, buffer::from(frame, FULL));
-    text::put(rt, b", ");
-    text::decimal(rt, frame.len() as u64);
-    text::put(rt, b" bytes,");
+    let _ = print!(rt; ", {} bytes,", frame.len());
 }
 
 // Whether something is the same.
-fn print_verdict(rt: &impl Print, what: &[u8], is_same: bool) {
-    text::put(rt, what);
-    if is_same {
-        text::put(rt, b" same");
-        return;
-    }
-    text::put(rt, b" DIFFERS");
+fn print_verdict(rt: &impl Print, what: &str, is_same: bool) {
+    let verdict = if is_same { "same" } else { "DIFFERS" };
+    let _ = print!(rt; "{what} {verdict}");
 }
 
 // The number with which something is refused, and whether it is the right one.
-fn print_refusal(rt: &impl Print, what: &[u8], got: u8, number: u64) -> bool {
-    text::put(rt, what);
-    text::put(rt, b" refuses ");
-    text::decimal(rt, got as u64);
-    if got as u64 == number {
-        return true;
+fn print_refusal(rt: &impl Print, what: &str, got: u8, number: u64) -> bool {
+    let _ = print!(rt; "{what} refuses {got}");
+    if got as u64 != number {
+        text::put(rt, b" DIFFERS");
+        return false;
     }
-    text::put(rt, b" DIFFERS");
-    false
-}
-
-// One frame more.
-fn counted(s: Score, is_same: bool, is_back: bool) -> Score {
-    Score {
-        frames: std::num::wrapping_add_u32(s.frames, 1),
-        same: std::num::wrapping_add_u32(s.same, is_same as u32),
-        back: std::num::wrapping_add_u32(s.back, is_back as u32),
-    }
-}
-
-// The last line.
-pub(crate) fn print_score(rt: &impl Print, s: Score) {
-    text::decimal(rt, s.frames as u64);
-    text::put(rt, b" frames, ");
-    text::decimal(rt, s.same as u64);
-    text::put(rt, b" as in P, ");
-    text::decimal(rt, s.back as u64);
-    text::put(rt, b" read back\n");
+    true
 }

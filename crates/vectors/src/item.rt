@@ -8,12 +8,20 @@ use kind::Name;
 use modulation::{Lora, Modulation};
 use rx::Rx;
 
-// A number is taken modulo what its field holds.
-const BYTE: u64 = 0x100;
+// A number modulo what a byte holds.
+fn byte(x: u64) -> u8 {
+    (x % 0x100) as u8
+}
 
-const HALF: u64 = 0x10000;
+// A number modulo what two bytes hold.
+fn half(x: u64) -> u16 {
+    (x % 0x10000) as u16
+}
 
-const WORD: u64 = 0x100000000;
+// A number modulo what four bytes hold.
+fn word(x: u64) -> u32 {
+    (x % 0x100000000) as u32
+}
 
 // What a line is about.
 #[derive(Clone, Copy)]
@@ -27,35 +35,33 @@ pub(crate) enum Item {
 }
 
 // The item of a line of some kind.
-pub(crate) fn of_line(kind: u8, f: [u64; FIELDS_MAX]) -> Item {
+pub(crate) fn of_line(kind: Option<u8>, f: [u64; FIELDS_MAX]) -> Item {
     match kind {
-        b'c' => Item::Command(command(f)),
-        b'a' => Item::Answer {
+        Some(b'c') => Item::Command(command(f)),
+        Some(b'a') => Item::Answer {
             answer: answer(f),
             name: name(f[1]),
         },
         _ => Item::Wrong {
-            kind: (f[0] % BYTE) as u8,
+            kind: byte(f[0]),
             number: f[1],
         },
     }
 }
 
 pub(crate) fn command(f: [u64; FIELDS_MAX]) -> Command {
-    match (f[0] % BYTE) as u8 {
+    match byte(f[0]) {
         kind::PING => Command::Ping,
         kind::GET_INFO => Command::GetInfo,
         kind::SET_CONFIG => Command::SetConfig(lora(f)),
-        kind::TX => Command::Tx {
-            flags: (f[2] % BYTE) as u8,
-        },
+        kind::TX => Command::Tx { flags: byte(f[2]) },
         kind::RX_START => Command::RxStart,
         _ => Command::RxStop,
     }
 }
 
 fn name(x: u64) -> Name {
-    match (x % BYTE) as u8 {
+    match byte(x) {
         kind::PING => Name::Ping,
         kind::GET_INFO => Name::GetInfo,
         kind::SET_CONFIG => Name::SetConfig,
@@ -66,25 +72,23 @@ fn name(x: u64) -> Name {
 }
 
 fn answer(f: [u64; FIELDS_MAX]) -> Answer {
-    match (f[0] % BYTE) as u8 {
-        kind::ERR => Answer::Err {
-            code: (f[2] % HALF) as u16,
-        },
+    match byte(f[0]) {
+        kind::ERR => Answer::Err { code: half(f[2]) },
         kind::RX => Answer::Rx(rx(f)),
         kind::TX_DONE => Answer::TxDone {
-            result: (f[2] % BYTE) as u8,
-            airtime_us: (f[3] % WORD) as u32,
+            result: byte(f[2]),
+            airtime_us: word(f[3]),
         },
         _ => ok(f),
     }
 }
 
 fn ok(f: [u64; FIELDS_MAX]) -> Answer {
-    match (f[1] % BYTE) as u8 {
+    match byte(f[1]) {
         kind::GET_INFO => Answer::Info(info(f)),
         kind::SET_CONFIG => Answer::Configured(Configured {
-            result: (f[12] % BYTE) as u8,
-            owner: (f[13] % BYTE) as u8,
+            result: byte(f[12]),
+            owner: byte(f[13]),
             current: lora(f),
         }),
         _ => Answer::Ok,
@@ -93,50 +97,50 @@ fn ok(f: [u64; FIELDS_MAX]) -> Answer {
 
 fn lora(f: [u64; FIELDS_MAX]) -> Modulation {
     Modulation::Lora(Lora {
-        freq_hz: (f[2] % WORD) as u32,
-        sf: (f[3] % BYTE) as u8,
-        bw: (f[4] % BYTE) as u8,
-        cr: (f[5] % BYTE) as u8,
-        preamble_len: (f[6] % HALF) as u16,
-        sync_word: (f[7] % HALF) as u16,
-        tx_power_dbm: scalar::i8_of((f[8] % BYTE) as u8),
-        header_mode: (f[9] % BYTE) as u8,
-        payload_crc: (f[10] % BYTE) as u8,
-        iq_invert: (f[11] % BYTE) as u8,
+        freq_hz: word(f[2]),
+        sf: byte(f[3]),
+        bw: byte(f[4]),
+        cr: byte(f[5]),
+        preamble_len: half(f[6]),
+        sync_word: half(f[7]),
+        tx_power_dbm: byte(f[8]).cast_signed(),
+        header_mode: byte(f[9]),
+        payload_crc: byte(f[10]),
+        iq_invert: byte(f[11]),
     })
 }
 
 fn rx(f: [u64; FIELDS_MAX]) -> Rx {
     Rx {
-        rssi: scalar::i16_of((f[2] % HALF) as u16),
-        snr: scalar::i16_of((f[3] % HALF) as u16),
-        freq_err: scalar::i32_of((f[4] % WORD) as u32),
+        rssi: half(f[2]).cast_signed(),
+        snr: half(f[3]).cast_signed(),
+        freq_err: word(f[4]).cast_signed(),
         timestamp_us: f[5],
-        crc_valid: (f[6] % BYTE) as u8,
-        packets_dropped: (f[7] % HALF) as u16,
-        origin: (f[8] % BYTE) as u8,
+        crc_valid: byte(f[6]),
+        packets_dropped: half(f[7]),
+        origin: byte(f[8]),
     }
 }
 
 fn info(f: [u64; FIELDS_MAX]) -> Info {
     Info {
-        proto_major: (f[2] % BYTE) as u8,
-        proto_minor: (f[3] % BYTE) as u8,
-        fw_major: (f[4] % BYTE) as u8,
-        fw_minor: (f[5] % BYTE) as u8,
-        fw_patch: (f[6] % BYTE) as u8,
-        radio_chip_id: (f[7] % HALF) as u16,
+        proto_major: byte(f[2]),
+        proto_minor: byte(f[3]),
+        fw_major: byte(f[4]),
+        fw_minor: byte(f[5]),
+        fw_patch: byte(f[6]),
+        radio_chip_id: half(f[7]),
         capability_bitmap: f[8],
-        supported_sf_bitmap: (f[9] % HALF) as u16,
-        supported_bw_bitmap: (f[10] % HALF) as u16,
-        max_payload_bytes: (f[11] % HALF) as u16,
-        rx_queue_capacity: (f[12] % HALF) as u16,
-        tx_queue_capacity: (f[13] % HALF) as u16,
-        freq_min_hz: (f[14] % WORD) as u32,
-        freq_max_hz: (f[15] % WORD) as u32,
-        tx_power_min_dbm: scalar::i8_of((f[16] % BYTE) as u8),
-        tx_power_max_dbm: scalar::i8_of((f[17] % BYTE) as u8),
-        mcu_uid_len: (f[18] % BYTE) as u8,
-        radio_uid_len: (f[19] % BYTE) as u8,
+        supported_sf_bitmap: half(f[9]),
+        supported_bw_bitmap: half(f[10]),
+        max_payload_bytes: half(f[11]),
+        rx_queue_capacity: half(f[12]),
+        tx_queue_capacity: half(f[13]),
+        freq_min_hz: word(f[14]),
+        freq_max_hz: word(f[15]),
+        tx_power_min_dbm: byte(f[16]).cast_signed(),
+        tx_power_max_dbm: byte(f[17]).cast_signed(),
+        mcu_uid_len: byte(f[18]),
+        radio_uid_len: byte(f[19]),
     }
 }

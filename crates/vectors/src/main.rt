@@ -17,35 +17,21 @@ const TABLE: usize = 65536;
 
 // Takes the lines of a table one after the other.
 fn score(rt: &impl Print, lines: &[u8]) -> Score {
-    let mut s = Score {
-        frames: 0,
-        same: 0,
-        back: 0,
-    };
-    let mut at = 0;
-    while at < lines.len() {
-        let end = table::find(lines, at, b'\n');
-        s = case::line(rt, s, buffer::part(lines, at, end - at));
-        if end == lines.len() {
-            return s;
-        }
-        at = end + 1;
+    let mut score = Score::default();
+    for line in lines.split(|b| *b == b'\n') {
+        score = case::line(rt, score, line);
     }
-    s
+    score
 }
 
 // Reads until the memory is full, the input ends or a read fails, and answers how many bytes there are.
 fn read_full(input: &mut impl Read, memory: &mut [u8]) -> usize {
     let mut done = 0;
     while done < memory.len() {
-        let n = match input.read(&mut memory[done..]) {
-            Ok(n) => n,
-            Err(_) => 0,
-        };
-        if n == 0 {
-            return done;
+        match input.read(&mut memory[done..]) {
+            Ok(0) | Err(_) => return done,
+            Ok(n) => done += n,
         }
-        done += n;
     }
     done
 }
@@ -53,5 +39,5 @@ fn read_full(input: &mut impl Read, memory: &mut [u8]) -> usize {
 fn main(rt: HostRuntime) {
     let mut memory = [0u8; TABLE];
     let n = read_full(&mut rt.stdin(), &mut memory);
-    case::print_score(&rt, score(&rt, buffer::part(&memory, 0, n)));
+    score(&rt, buffer::part(&memory, 0, n)).print(&rt);
 }

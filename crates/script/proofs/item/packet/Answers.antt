@@ -1,10 +1,8 @@
--- The head decides, and then the bytes after it.
+-- Where the head is bad, no bytes are put.
 -- Assumes nothing.
-use mathlib.Core.Path.{sym, ◌∙◌}
+use Rattle.std.proofs.Common.{sym}
 use Rattle.buffer.proofs.Laws.{lay-none}
 use Rattle.script.proofs.item.packet.Goals as goal
 
-pub returns-in_default : goal.returns-in_default
-returns-in_default c =
-    let h = sym c.head_in-h.ensures ∙ c.in_default.is in
-    record { value = simp h; memory_after = simp h (sym (lay-none 0 _)) }
+pub returns-in_err-head-clause-memory_after : goal.returns-in_err-head-clause-memory_after
+returns-in_err-head-clause-memory_after c = rw c.in_err-head.ensures.head (sym (lay-none 0 _))

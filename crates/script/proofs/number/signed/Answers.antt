@@ -1,53 +1,31 @@
 -- Each way out is a case of the definition.
 -- Assumes nothing.
-use lib.ListN.{drop}
-use mathlib.Core.Path.{sym, ap, ◌∙◌}
-use native.Mathlib.Omega.{arith}
+use Rattle.std.proofs.Common.{arith, sym, ap, ◌∙◌}
 use Rattle.script.specs.Numbers.{minus}
-use Rattle.script.proofs.Numbers.{signs-none, signs-plus, signs-minus, minus-zero, minus-more, decimal-within}
+use Rattle.script.proofs.Numbers.{signs-plus, signs-minus, minus-zero, minus-more}
 use Rattle.script.proofs.number.signed.Goals as goal
 
-pub returns-then-word-eq0 : goal.returns-then-word-eq0
-returns-then-word-eq0 c =
-    sym (signs-none _ _ c.if-word-eq0.true)
+pub returns-in_default-clause-value : goal.returns-in_default-clause-value
+returns-in_default-clause-value c =
+    c.decimal.ensures.value ∙ sym (signs-plus c.args.half c.args.word.now c.in_default.ensures.cases)
 
-pub returns-then-word-ne45 : goal.returns-then-word-ne45
-returns-then-word-ne45 c =
-    let if1 = c.if-word-eq0 in
-    let if2 = c.if-word-ne45 in
-    c.decimal.ensures ∙ sym (signs-plus _ _ if1.false if2.true)
-
-pub returns-in_default : goal.returns-in_default
-returns-in_default c =
-    let if1 = c.if-word-eq0 in
-    let if2 = c.if-word-ne45 in
-    let from = c.from in
-    let decimal2 = c.decimal-2 in
-    sym (signs-minus _ _ if1.false if2.false ∙ ap (minus c.args.half) (rw from.ensures at (sym decimal2.ensures) ∙ c.in_default.is))
-
-pub returns-then-n-eq0 : goal.returns-then-n-eq0
-returns-then-n-eq0 c =
-    let if1 = c.if-word-eq0 in
-    let if2 = c.if-word-ne45 in
-    let from = c.from in
-    let decimal2 = c.decimal-2 in
+pub returns-in_err-n-clause-value : goal.returns-in_err-n-clause-value
+returns-in_err-n-clause-value c =
     let half = c.args.half in
-    let number = rw from.ensures at (sym decimal2.ensures) ∙ c.in-Value.is in
-    sym (signs-minus _ _ if1.false if2.false ∙ ap (minus half) number ∙ minus-zero half _ c.if-n-eq0.true)
+    let sign = c.in-Some.ensures.cases in
+    let number = rw sign.1 at (sym c.decimal-2.ensures.value ∙ c.in_err-n.was) in
+    c.from_residual.ensures ∙ sym (signs-minus half c.args.word.now sign.0 ∙ ap (minus half) number)
 
-pub overflow_sub-result : goal.overflow_sub-result
-overflow_sub-result c =
-    let from = c.from in
-    let decimal2 = c.decimal-2 in
-    let number = rw from.ensures at (sym decimal2.ensures) ∙ c.in-Value.is in
-    omega (arith, decimal-within c.args.half (drop 1 c.args.word.now) c.in-Value.n number)
-
-pub returns : goal.returns
-returns c =
-    let if1 = c.if-word-eq0 in
-    let if2 = c.if-word-ne45 in
-    let from = c.from in
-    let decimal2 = c.decimal-2 in
+pub returns-in-0-clause-value : goal.returns-in-0-clause-value
+returns-in-0-clause-value c =
     let half = c.args.half in
-    let number = rw from.ensures at (sym decimal2.ensures) ∙ c.in-Value.is in
-    sym (signs-minus _ _ if1.false if2.false ∙ ap (minus half) number ∙ minus-more half _ c.if-n-eq0.false)
+    let sign = c.in-Some.ensures.cases in
+    let number = rw sign.1 at (sym c.decimal-2.ensures.value ∙ c.in_ok-n.was) in
+    sym (signs-minus half c.args.word.now sign.0 ∙ ap (minus half) number ∙ minus-zero half c.in_ok-n.n c.in-0.is)
+
+pub returns-in_default-2-clause-value : goal.returns-in_default-2-clause-value
+returns-in_default-2-clause-value c =
+    let half = c.args.half in
+    let sign = c.in-Some.ensures.cases in
+    let number = rw sign.1 at (sym c.decimal-2.ensures.value ∙ c.in_ok-n.was) in
+    sym (signs-minus half c.args.word.now sign.0 ∙ ap (minus half) number ∙ minus-more half c.in_ok-n.n (λ e. omega arith))

@@ -1,7 +1,0 @@
--- Safe and ending: each line ends past where it starts.
--- Assumes nothing.
-use Rattle.std.proofs.Common.{◌-◌, length}
-use Rattle.vectors.proofs.score.Given as goal
-
-abbrev pub decreases-loop-at : goal.decreases-loop-at
-decreases-loop-at g l = length l.lines - l.at

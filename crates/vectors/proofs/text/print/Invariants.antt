@@ -1,7 +1,0 @@
--- Safe and ending: the measure is what is left of the bytes.
--- Assumes nothing.
-use Rattle.std.proofs.Common.{◌-◌, length}
-use Rattle.vectors.proofs.text.print.Given as goal
-
-abbrev pub decreases-loop-i : goal.decreases-loop-i
-decreases-loop-i g l = length l.bytes - l.i
