@@ -6,7 +6,7 @@ mod event;
 mod print;
 mod reading;
 
-use crate::reading::Reading;
+use crate::reading::{PIECE, Reading};
 use std::env::{Env, FillError};
 use std::fs::File;
 use std::{io, str};
@@ -54,27 +54,28 @@ fn arg_count(rt: &impl Env) -> usize {
 }
 
 // Replays the script that argument i names, if it can be opened.
-fn argument(rt: &HostRuntime, i: usize, reading: &mut Reading) {
+fn argument(rt: &HostRuntime, i: usize, reading: &mut Reading, piece: &mut [u8; PIECE]) {
     let mut name = [0u8; SCRIPT_NAME];
     let n = rt.arg(i, &mut name).unwrap_or(0);
     let name = buffer::part(&name, 0, n);
     if name == b"-".as_slice() {
-        reading.script(rt, &mut rt.stdin());
+        reading.script(rt, &mut rt.stdin(), piece);
         return;
     }
     match named(rt, name) {
-        Ok(mut file) => reading.script(rt, &mut file),
+        Ok(mut file) => reading.script(rt, &mut file, piece),
         Err(e) => fail(rt, name, e),
     }
 }
 
 fn main(rt: HostRuntime) {
     let mut reading = Reading::new();
+    let mut piece = [0u8; PIECE];
     let n = arg_count(&rt);
     if n < 2 {
-        reading.script(&rt, &mut rt.stdin());
+        reading.script(&rt, &mut rt.stdin(), &mut piece);
     }
     for i in 1..n {
-        argument(&rt, i, &mut reading);
+        argument(&rt, i, &mut reading, &mut piece);
     }
 }

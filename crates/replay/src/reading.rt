@@ -9,7 +9,7 @@ const SCRIPT_LINE: usize = 600000;
 // How many bytes such a line may have: two digits and a blank each.
 const LINE_BYTES: usize = 200000;
 // The most bytes of one read.
-const PIECE: usize = 65536;
+pub(crate) const PIECE: usize = 65536;
 // So many pieces are read at most. No script has as many: a proved loop has to end.
 const PIECES: u64 = 1 << 62;
 
@@ -44,10 +44,9 @@ fn read(rt: &impl Eprint, source: &mut impl Read, piece: &mut [u8]) -> usize {
 }
 
 // Reads what is left of a script that a bad line has ended.
-fn drain(rt: &impl Eprint, source: &mut impl Read) {
-    let mut piece = [0u8; PIECE];
+fn drain(rt: &impl Eprint, source: &mut impl Read, piece: &mut [u8; PIECE]) {
     for _ in 0..PIECES {
-        if read(rt, source, &mut piece) == 0 {
+        if read(rt, source, piece) == 0 {
             return;
         }
     }
@@ -104,31 +103,45 @@ impl Reading {
         Ok(())
     }
 
-    // The whole script, up to a bad line. The last line may have no line end.
-    fn lines(&mut self, rt: &(impl Print + Eprint), source: &mut impl Read) -> Result<(), BadLine> {
-        let mut piece = [0u8; PIECE];
+    // What a source has, up to a bad line.
+    fn pieces(
+        &mut self,
+        rt: &(impl Print + Eprint),
+        source: &mut impl Read,
+        piece: &mut [u8; PIECE],
+    ) -> Result<(), BadLine> {
         for _ in 0..PIECES {
-            let n = read(rt, source, &mut piece);
+            let n = read(rt, source, piece);
             if n == 0 {
-                break;
+                return Ok(());
             }
-            for b in buffer::part(&piece, 0, n) {
+            for b in buffer::part(piece, 0, n) {
                 self.byte(rt, *b)?;
             }
         }
-        if self.kept == Some(0) {
-            return Ok(());
-        }
-        self.end_line(rt)
+        Ok(())
     }
 
-    // Replays the script that a source has, from power-up on.
-    pub(crate) fn script(&mut self, rt: &(impl Print + Eprint), source: &mut impl Read) {
+    // The last line, if no line end has ended it. The source has ended: a bad line leaves nothing to read.
+    fn last_line(&mut self, rt: &(impl Print + Eprint)) {
+        if self.kept != Some(0) {
+            let _ = self.end_line(rt);
+        }
+    }
+
+    // Replays the script that a source has, from power-up on; piece is the memory that it is read into.
+    pub(crate) fn script(
+        &mut self,
+        rt: &(impl Print + Eprint),
+        source: &mut impl Read,
+        piece: &mut [u8; PIECE],
+    ) {
         self.replay.restart();
         self.kept = Some(0);
         self.lines = 0;
-        if self.lines(rt, source).is_err() {
-            drain(rt, source);
+        match self.pieces(rt, source, piece) {
+            Ok(()) => self.last_line(rt),
+            Err(BadLine) => drain(rt, source, piece),
         }
         print::events(rt, self.replay.events());
     }
