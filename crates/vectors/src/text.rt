@@ -14,9 +14,13 @@ pub(crate) fn put(rt: &impl Print, bytes: &[u8]) {
     let _ = rt.write_all(bytes);
 }
 
-// Prints bytes, each after a blank.
+// Prints bytes, each after a blank. By their digits and not by {b:02X}, which, tried, takes three times the instructions.
 pub(crate) fn print(rt: &impl Print, bytes: &[u8]) {
+    let digits = b"0123456789ABCDEF";
     for b in bytes {
-        let _ = print!(rt; " {b:02X}");
+        put(
+            rt,
+            &[b' ', digits[(*b / 16) as usize], digits[(*b % 16) as usize]],
+        );
     }
 }
