@@ -1,15 +1,15 @@
 -- Laws of a number's digits, which are the library's bits: the lowest that is clear, how many are set, and what setting and clearing one changes. To set
 -- digit k where it is clear, or to clear it where it is set, is an exclusive or with 2 ^ k.
 -- Assumes nothing.
-use Rattle.std.proofs.Common.{◌≡◌, sym, ap, ◌∙◌, ℕ, zero, suc, ◌+◌, ◌-◌, ◌*◌, ◌/◌, ◌%◌, ◌^◌, ◌≤◌, ◌<◌, bit_and, bit_xor, arith, zero-mul, one-mul}
+use Rattle.std.proofs.Common.{◌≡◌, refl, sym, ap, ◌∙◌, subst, ℕ, zero, suc, ◌+◌, ◌-◌, ◌*◌, ◌/◌, ◌%◌, ◌^◌, ◌≤◌, ◌<◌, bit_and, bit_xor, arith, zero-mul, one-mul}
 use Rattle.std.proofs.Math.Nat.{pow-suc}
 use Rattle.std.proofs.Math.Pow.{pow-lt}
-use Rattle.std.specs.Int.{w16, bit_at}
+use Rattle.std.specs.Int.{bit_at}
 use Rattle.std.specs.Int.Bits.{xor_add_and}
-use Rattle.std.specs.Int.Count.{ones, ones_step, ones-ones}
-use Rattle.std.proofs.lemmas.Nat.{xor_lt, and_le_l}
+use Rattle.std.specs.Int.Count.{ones, count_trailing_zeros, under, ones_step, ones-ones}
+use Rattle.std.proofs.lemmas.Nat.{xor_lt, and_le_l, pow_pos, ones-le}
 use Rattle.std.proofs.lemmas.Nat.Bits.{bit_at_lowest, bit_at-suc, bit_at-zero, bit_at-lt, bit_at_xor, bit_at-pow_same, bit_at-pow_other}
-use Rattle.std.proofs.lemmas.Nat.Bits.{and_pow, bit_at-trailing_ones}
+use Rattle.std.proofs.lemmas.Nat.Bits.{and_pow}
 use Rattle.ledger.specs.Digits.{digit, lowest}
 
 pub digit-zero : (n : ℕ) → digit n 0 ≡ n % 2
@@ -30,15 +30,55 @@ pub not-one : (n k : ℕ) → (digit n k ≡ 1 → ⊥) → digit n k ≡ 0
 unfolding digit
 not-one n k d = omega (arith, bit_at-lt n k)
 
--- ---- the lowest clear digit of sixteen, where not all of them are set: it is clear, and each below it is set
+-- ---- the lowest clear digit of k: it is clear, where there is one, each below it is set, and there is one where not all k are set
 
+abbrev IsLowestClear : ℕ → ℕ → ℕ → Type 0
+IsLowestClear k n t = (t < k → digit n t ≡ 0) × ((j : ℕ) → j < t → digit n j ≡ 1) × (n < 2 ^ k - 1 → t < k)
+
+-- an even number has digit 0 clear, and an odd one has the digits of its half, one place up; d is digit 0 of the complement
+lowest_by : (k n t d : ℕ) → n < 2 ^ suc k → (2 ^ suc k - 1 - n) % 2 ≡ d → IsLowestClear k (n / 2) t → IsLowestClear (suc k) n (under d t)
+lowest_by k n t (suc d) w even half = (λ l. omega (arith, digit-zero n, pow-suc 2 k), λ j l. absurd (omega arith), λ l. omega arith)
+lowest_by k n t zero w odd half =
+    (λ l. digit-suc n t ∙ half.0 (omega arith), below half.1, λ l. let s = half.2 (omega (arith, pow-suc 2 k)) in omega arith)
+  where
+    below : ((j : ℕ) → j < t → digit (n / 2) j ≡ 1) → (j : ℕ) → j < suc t → digit n j ≡ 1
+    below h zero l = omega (arith, digit-zero n, pow-suc 2 k)
+    below h (suc j) l = digit-suc n j ∙ h j (omega arith)
+
+lowest_of : (k n : ℕ) → n < 2 ^ k → IsLowestClear k n (lowest k n)
+unfolding lowest count_trailing_zeros
+lowest_of zero n w = (λ l. absurd (omega arith), λ j l. absurd (omega arith), λ l. absurd (omega arith))
+lowest_of (suc k) n w =
+    let half : (2 ^ suc k - 1 - n) / 2 ≡ 2 ^ k - 1 - n / 2 = omega (arith, pow-suc 2 k, pow_pos k) in
+    let rest = lowest_of k (n / 2) (omega (arith, pow-suc 2 k)) in
+    let all = lowest_by k n (lowest k (n / 2)) ((2 ^ suc k - 1 - n) % 2) w refl rest in
+    subst (λ x. IsLowestClear (suc k) n (under ((2 ^ suc k - 1 - n) % 2) (count_trailing_zeros k x))) (sym half) all
+
+pub lowest-is-clear : (k n : ℕ) → n < 2 ^ k → lowest k n < k → digit n (lowest k n) ≡ 0
+lowest-is-clear k n w = (lowest_of k n w).0
+
+pub below-lowest : (k n j : ℕ) → n < 2 ^ k → j < lowest k n → digit n j ≡ 1
+below-lowest k n j w = (lowest_of k n w).1 j
+
+pub lowest-lt : (k n : ℕ) → n < 2 ^ k - 1 → lowest k n < k
+lowest-lt k n l = (lowest_of k n (omega arith)).2 l
+
+-- of sixteen, all of it at once
 pub lowest-right : (n : ℕ) → n < 0xFFFF
     → (lowest 16 n < 16) × (digit n (lowest 16 n) ≡ 0) × ((j : ℕ) → j < lowest 16 n → digit n j ≡ 1)
-unfolding digit lowest
-lowest-right n h = bit_at-trailing_ones w16 n (omega arith)
+lowest-right n h = let l = lowest_of 16 n (omega arith) in let w = l.2 h in (w, l.0 w, l.1)
 
-pub not_full : (n : ℕ) → n < 0x10000 → (ones n ≡ 16 → ⊥) → n < 0xFFFF
-not_full n h d = let less : n ≡ 0xFFFF → ⊥ = λ e. d (ap ones e ∙ ones-ones 16) in omega arith
+-- ---- k digits are set only where all of them are
+
+pub ones-full : (k n : ℕ) → n < 2 ^ k → ones n ≡ k → n ≡ 2 ^ k - 1
+ones-full zero n w e = omega arith
+ones-full (suc k) n w e =
+    let l = ones-le k (n / 2) (omega (arith, pow-suc 2 k)) in
+    let rest = ones-full k (n / 2) (omega (arith, pow-suc 2 k)) (omega (arith, ones_step n)) in
+    omega (arith, pow-suc 2 k, pow_pos k, ones_step n)
+
+pub not_full : (k n : ℕ) → n < 2 ^ k → (ones n ≡ k → ⊥) → n < 2 ^ k - 1
+not_full k n w d = let less : n ≡ 2 ^ k - 1 → ⊥ = λ e. d (ap ones e ∙ ones-ones k) in omega arith
 
 -- ---- setting digit k, which is clear: it adds 2 ^ k
 

@@ -32,7 +32,7 @@ place-free l command p f e = elim (cases_Bool (eqb (ones l.used) line_max)) [
   | inr b ↦ (elim (cases_Bool (is_command command)) [
     | inl c ↦ (let q = sym (answer-by l command b c) ∙ e in
         let same : next_place l ≡ p = cc in
-        let low = lowest-right l.used (not_full l.used f (eqb-false _ _ b)) in
+        let low = lowest-right l.used (not_full 16 l.used f (eqb-false _ _ b)) in
         subst (λ (r : Place). (r.line < line_max) × (digit l.used r.line ≡ 0)) same (low.0, low.1))
     | inr c ↦ absurd (let q = sym (answer-by l command b c) ∙ e in cc)
   ])
@@ -40,7 +40,7 @@ place-free l command p f e = elim (cases_Bool (eqb (ones l.used) line_max)) [
 
 pub lowest-line : (l : Ledger) → Fits l → (ones l.used ≡ line_max → ⊥) → LowestLine (LineOpen l) (lowest_free l)
 lowest-line l f room =
-    let low = lowest-right l.used (not_full l.used f.used room) in
+    let low = lowest-right l.used (not_full 16 l.used f.used room) in
     record { inside = low.0; free = λ e. omega (arith, low.1); lower = low.2 }
 
 open-right : (l : Ledger) (command : ℕ) → Fits l
