@@ -1,6 +1,7 @@
 #!/usr/bin/env bash
 # Checks the library for a microcontroller, as tools/cross builds it, on an emulated board: the C tests of
-# the header, of the dongle, and, with fewer calls, of frames, of the ledger and of the time on air; the traces
+# the header, of the dongle, and, with fewer calls, of frames, of the ledger and of the time on air; the names that the
+# archive asks its program for; the traces
 # of tests/replay.c, which must be those of the proved program on its scripts, and those of the library for
 # this machine on random ones; and the stack that each function takes. The board of the two targets for ARM has a Cortex-M4,
 # which runs the code for a Cortex-M0 too.
@@ -25,6 +26,17 @@ fail() {
 . "$root/tests/emulated.sh"
 emulate "$target"
 [ -f "$built/replay" ] || fail "there is no $built/replay"
+
+# What the archive asks its program for: docs/FIRMWARE.md has these names.
+asked=$("${tools}nm" -u "$library" | awk '$1 == "U" { print $2 }' | sort | tr '\n' ' ')
+case $target in
+    thumbv7em) wanted='__aeabi_memclr __aeabi_memclr4 __aeabi_memcpy __aeabi_uldivmod ' ;;
+    thumbv6m)
+        wanted='__aeabi_llsl __aeabi_lmul __aeabi_memclr __aeabi_memclr4 __aeabi_memcpy __aeabi_uidiv __aeabi_uldivmod '
+        ;;
+    riscv32) wanted='__udivdi3 memcpy memset ' ;;
+esac
+[ "$asked" = "$wanted" ] || fail "the archive asks for $asked"
 
 # A Cortex-M0 has no loads and stores of words that are not aligned. With a bit of its CCR a Cortex-M4
 # has none either.
