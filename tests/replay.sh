@@ -50,20 +50,6 @@ prints "$root/examples/sweep.trace" "$built/replay.crlf" < /dev/null
 printf 'events 2\nevents 0\n' > "$built/replay.expected"
 prints "$built/replay.expected" - not-there - < <(echo 'tick 2')
 
-# A bad last line that no line end has ended leaves nothing to read: the script has ended before it. Here what comes after
-# the end of input, as on a terminal, is the next script.
-cat > "$built/replay.py" <<'END'
-import socket, subprocess, sys
-ours, its = socket.socketpair(socket.AF_UNIX, socket.SOCK_SEQPACKET)
-for message in (b"tick\nbad", b"", b"tick 3\n", b""):
-    ours.send(message)
-ours.close()
-sys.exit(subprocess.run(sys.argv[1:], stdin=its, timeout=60).returncode)
-END
-printf 'bad line 2\nevents 1\nevents 3\n' > "$built/replay.expected"
-python3 "$built/replay.py" "$built/replay" - - > "$built/replay.printed"
-same "$built/replay.expected" "$built/replay.printed"
-
 # The longest line is kept: 600,000 characters, where blanks after a blank do not count. One more is a
 # bad line.
 long=$(printf '  00%.0s' {1..199998})
