@@ -1,16 +1,23 @@
 -- Laws of a number's digits, which are the library's bits: the lowest that is clear, how many are set, and what setting and clearing one changes. To set
 -- digit k where it is clear, or to clear it where it is set, is an exclusive or with 2 ^ k.
 -- Assumes nothing.
-use Rattle.std.proofs.Common.{◌≡◌, refl, sym, ap, ◌∙◌, subst, ℕ, zero, suc, ◌+◌, ◌-◌, ◌*◌, ◌/◌, ◌%◌, ◌^◌, ◌≤◌, ◌<◌, bit_and, bit_xor, arith, zero-mul, one-mul}
-use Rattle.std.proofs.Math.Nat.{pow-suc}
-use Rattle.std.proofs.Math.Pow.{pow-lt}
+use Rattle.std.proofs.Common.{◌≡◌, refl, sym, ap, ◌∙◌, subst, ◌⊎◌, inl, inr, ℕ, zero, suc, ◌+◌, ◌-◌, ◌*◌, ◌/◌, ◌%◌, ◌^◌, ◌≤◌, ◌<◌, bit_and, bit_xor, arith, zero-mul, one-mul}
+use Rattle.std.proofs.Math.Nat.{pow-suc, div-eq_of_lt}
+use Rattle.std.proofs.Math.Pow.{pow-lt, pow_mono}
+use Rattle.std.proofs.lemmas.Bool.{cases_lt}
 use Rattle.std.specs.Int.{bit_at}
 use Rattle.std.specs.Int.Bits.{xor_add_and}
 use Rattle.std.specs.Int.Count.{ones, count_trailing_zeros, under, ones_step, ones-ones}
 use Rattle.std.proofs.lemmas.Nat.{xor_lt, and_le_l, pow_pos, ones-le}
-use Rattle.std.proofs.lemmas.Nat.Bits.{bit_at_lowest, bit_at-suc, bit_at-zero, bit_at-lt, bit_at_xor, bit_at-pow_same, bit_at-pow_other}
-use Rattle.std.proofs.lemmas.Nat.Bits.{and_pow}
+use Rattle.std.proofs.lemmas.Nat.Bits.{bit_at_lowest, bit_at-suc, bit_at-zero, bit_at-lt, bit_at_xor, bit_at-pow_same, bit_at-pow_other, and_pow}
 use Rattle.ledger.specs.Digits.{digit, lowest}
+
+pub zero-or-one : (n : ℕ) → (n % 2 ≡ 0) ⊎ (n % 2 ≡ 1)
+zero-or-one n = elim (cases_lt (n % 2) 1) [ inl e ↦ inl (omega arith) | inr e ↦ inr (omega arith) ]
+
+-- of a number of k digits some are left only below digit k
+pub digits-left : (k n i : ℕ) → n < 2 ^ k → (n / 2 ^ i ≡ 0 → ⊥) → i < k
+digits-left k n i w d = elim (cases_lt i k) [ inl l ↦ l | inr l ↦ absurd (d (div-eq_of_lt (omega (arith, pow_mono l)))) ]
 
 pub digit-zero : (n : ℕ) → digit n 0 ≡ n % 2
 unfolding digit

@@ -30,7 +30,7 @@ owner_at xs i used tag {b} h e =
     ∙ ap₂ (λ j u. cond b (Some i) (owner_from j (drop j xs) u tag)) (sym (add-one i)) (shr-shr used i 1)
 
 -- where no digit is left, no line is open any more
-owner-zero : (n : ℕ) (xs : List Line) (tag : ℕ) → owner_from n xs 0 tag ≡ None
+pub owner-zero : (n : ℕ) (xs : List Line) (tag : ℕ) → owner_from n xs 0 tag ≡ None
 unfolding owner_from has_tag
 owner-zero n [] tag = refl
 owner-zero n (x ∷ xs) tag = owner-zero (suc n) xs tag
@@ -62,7 +62,7 @@ pub owns-later : (x : Line) (xs : List Line) (u tag j : ℕ) → Owns (x ∷ xs)
 owns-later x xs u tag j o = record { inside = (let i = o.inside in omega arith); opened = sym (digit-suc u j) ∙ o.opened; tagged = o.tagged }
 
 -- a line that was found owns the tag; where none was found, none does
-found-from : (xs : List Line) (u tag n k : ℕ) → owner_from n xs u tag ≡ Some k → (j : ℕ) × (k ≡ n + j) × Owns xs u tag j
+pub found-from : (xs : List Line) (u tag n k : ℕ) → owner_from n xs u tag ≡ Some k → (j : ℕ) × (k ≡ n + j) × Owns xs u tag j
 unfolding owner_from
 found-from [] u tag n k e = absurd cc
 found-from (x ∷ xs) u tag n k e = elim (cases_Bool (has_tag tag x u)) [

@@ -39,7 +39,7 @@ not-vacant xs u tag e = go (eqb tag 0) (owner xs u tag) refl refl e
     go false (Some k) h o q = inr (k, owner-owns xs u tag k o)
     go false None h o q = absurd (true≢false q)
 
-is-vacant : (xs : List Line) (u tag : ℕ) → vacant xs u tag ≡ true → (tag ≡ 0 → ⊥) × ((j : ℕ) → Owns xs u tag j → ⊥)
+pub is-vacant : (xs : List Line) (u tag : ℕ) → vacant xs u tag ≡ true → (tag ≡ 0 → ⊥) × ((j : ℕ) → Owns xs u tag j → ⊥)
 unfolding vacant
 is-vacant xs u tag e = go (eqb tag 0) (owner xs u tag) refl refl e
   where
