@@ -1,10 +1,9 @@
 #!/usr/bin/env bash
 # Checks the library for a microcontroller, as tools/cross builds it, on an emulated board: the C tests of
-# the header, of the dongle, and, with fewer calls, of frames, of the ledger and of the time on air; the names that the
-# archive asks its program for; the traces
-# of tests/replay.c, which must be those of the proved program on its scripts, and those of the library for
-# this machine on random ones; and the stack that each function takes. The board of the two targets for ARM has a Cortex-M4,
-# which runs the code for a Cortex-M0 too.
+# the header, of the dongle, and, with fewer calls, of frames, of the ledger and of the time on air; the names that
+# the archive asks its program for; the traces of tests/replay.c, which must be those of the proved program on its
+# scripts, and those of the library for this machine on random ones; and the stack that each function takes. The
+# board of the two targets for ARM has a Cortex-M4, which runs the code for a Cortex-M0 too.
 #
 # Usage: tests/board.sh BUILT TARGET: the folder with the program replay, to which all output goes, and
 # thumbv7em, thumbv6m or riscv32. It needs QEMU, gcc and picolibc for the target.
@@ -28,7 +27,7 @@ emulate "$target"
 [ -f "$built/replay" ] || fail "there is no $built/replay"
 
 # What the archive asks its program for: docs/FIRMWARE.md has these names.
-asked=$("${tools}nm" -u "$library" | awk '$1 == "U" { print $2 }' | sort | tr '\n' ' ')
+asked=$("${tools}nm" -u "$library" | awk '$1 == "U" { print $2 }' | LC_ALL=C sort | tr '\n' ' ')
 case $target in
     thumbv7em) wanted='__aeabi_memclr __aeabi_memclr4 __aeabi_memcpy __aeabi_uldivmod ' ;;
     thumbv6m)
